@@ -1,0 +1,7 @@
+//! What npd reads from and writes to. The trait `Host` says what a call moves, what it leaves, and that it
+//! fails only with a count that rose; the layers above are proved over it once, for every host.
+#![tactic(auto)]
+
+mod host;
+
+pub use host::{CallKind, Host, HostFail, InId, OutId};
