@@ -23,3 +23,16 @@ fn values_keep_what_they_are_given(rt: HostRuntime) -> Result<(), Fail> {
     assert_eq!(rt; Word::copy_of(alloc, "decode")?.as_str(), "decode");
     Ok(())
 }
+
+#[test]
+fn names_are_runs_that_are_not_reserved(rt: HostRuntime) {
+    for text in ["a", "_", "startproto", "A9_", "ors"] {
+        assert!(rt; is_name(text.as_bytes()), "{text}");
+    }
+    for text in ["", "9a", "a-b", "or", "bitwor", "checkupdatelookuptable"] {
+        assert!(rt; !is_name(text.as_bytes()), "{text}");
+    }
+    assert!(rt; is_name(&[b'n'; 64]));
+    assert!(rt; !is_name(&[b'n'; 65]));
+    assert!(rt; is_reserved(b"mod") && begins_name(b'_') && continues_name(b'0'));
+}
