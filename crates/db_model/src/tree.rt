@@ -1,3 +1,6 @@
+ghost use Rattle.std.specs.Prelude.{◌≡◌};
+ghost use Rattle.db_model.specs.Reason.{reason_word};
+
 use crate::Bytes;
 use sqlite_items::Items;
 
@@ -17,6 +20,29 @@ pub enum Reason {
     Size,
     KeySize,
     DataSize,
+}
+
+impl Reason {
+    /// The word that the outputs have for it.
+    pub fn word(self) -> &'static str
+        ensures { result.now ≡ reason_word self }
+    {
+        match self {
+            Reason::Short => "short",
+            Reason::Turns => "turns",
+            Reason::Nodes => "nodes",
+            Reason::Protocols => "protocols",
+            Reason::Questions => "questions",
+            Reason::NoField => "nofield",
+            Reason::NoHit => "nohit",
+            Reason::Range => "range",
+            Reason::Zero => "zero",
+            Reason::Slice => "slice",
+            Reason::Size => "size",
+            Reason::KeySize => "keysize",
+            Reason::DataSize => "datasize",
+        }
+    }
 }
 
 /// What was decoded of a packet: its protocols in order.

@@ -1,0 +1,5 @@
+pub mod Words
+pub mod Status
+pub mod SimpleText
+pub mod Decoding
+pub mod Pdml

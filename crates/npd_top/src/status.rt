@@ -1,0 +1,107 @@
+ghost use Rattle.std.specs.Prelude.{◌≡◌, ◌++◌, ◌∷◌, [], codes, IfOk};
+ghost use Rattle.npd_top.specs.Status.{exit_of, line_of, role_word, part_word};
+
+use db_model::{Bytes64, NoMemory};
+use std::alloc::{AllocError, Global};
+
+/// What a file is to a run.
+#[derive(Clone, Copy, Debug, PartialEq, Eq)]
+pub enum Role {
+    Db,
+    Cap,
+    Pdml,
+}
+
+impl Role {
+    /// The word that the lines on standard error have for it.
+    fn word(self) -> &'static str
+        ensures { result.now ≡ role_word self }
+    {
+        match self {
+            Role::Db => "db",
+            Role::Cap => "cap",
+            Role::Pdml => "pdml",
+        }
+    }
+}
+
+/// A part of the input whose form isn't built yet.
+#[derive(Clone, Copy, Debug, PartialEq, Eq)]
+pub enum Part {
+    Words,
+    Database,
+    Capture,
+}
+
+impl Part {
+    /// The word that the lines on standard error have for it.
+    fn word(self) -> &'static str
+        ensures { result.now ≡ part_word self }
+    {
+        match self {
+            Part::Words => "words",
+            Part::Database => "database",
+            Part::Capture => "capture",
+        }
+    }
+}
+
+/// How a run ended.
+#[derive(Clone, Copy, Debug, PartialEq, Eq)]
+pub enum Status {
+    /// The capture was read to its end, and each named output is its whole text.
+    Done,
+    /// The file of this role was not opened. Nothing is written.
+    Open { role: Role },
+    /// The file of this role was not read to its end. No output is opened.
+    Read { role: Role },
+    /// The output of this role did not take its whole text: it holds a proper front of it.
+    Write { role: Role },
+    /// Memory was refused. No output is opened, or the output holds a front of its whole text.
+    NoMemory,
+    /// This part of the input has a form that isn't built yet. Nothing is written.
+    Unbuilt { part: Part },
+}
+
+impl Status {
+    /// The process's exit number: 0 for `Done`, 3 to 5 for `Open`, `Read` and `Write`, 12 for `NoMemory`, 20 for
+    /// `Unbuilt`. Takes no memory.
+    pub fn exit(&self) -> u8
+        ensures { result ≡ exit_of self.now }
+    {
+        match self {
+            Status::Done => 0,
+            Status::Open { .. } => 3,
+            Status::Read { .. } => 4,
+            Status::Write { .. } => 5,
+            Status::NoMemory => 12,
+            Status::Unbuilt { .. } => 20,
+        }
+    }
+
+    /// The line for standard error, with its LF. It is empty for `Done`.
+    pub fn line(&self, alloc: Global) -> Result<Bytes64, NoMemory>
+        ensures { IfOk result (λ text. text ≡ line_of self.now) }
+    {
+        let line = match self {
+            Status::Done => Vec::new(alloc),
+            Status::Open { role } => line(alloc, "open ", role.word())?,
+            Status::Read { role } => line(alloc, "read ", role.word())?,
+            Status::Write { role } => line(alloc, "write ", role.word())?,
+            Status::NoMemory => line(alloc, "no memory", "")?,
+            Status::Unbuilt { part } => line(alloc, "unbuilt ", part.word())?,
+        };
+        Ok(Bytes64::from_vec(line))
+    }
+}
+
+/// `npd: `, what happened and to which file or part, and LF.
+fn line(alloc: Global, what: &str, which: &str) -> Result<Vec<u8>, AllocError>
+    ensures { IfOk result (λ text. text.items ≡ codes "npd: " ++ (what.now ++ which.now) ++ 10 ∷ []) }
+{
+    let mut text = Vec::from_slice(alloc, b"npd: ")?;
+    text.extend_from_slice(what.as_bytes())?;
+    text.extend_from_slice(which.as_bytes())?;
+    text.push(b'\n')?;
+    Ok(text)
+}
