@@ -1,2 +1,3 @@
 pub mod Capture
 pub mod Fail
+pub mod Reading
