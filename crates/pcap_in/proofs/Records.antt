@@ -69,16 +69,16 @@ goes-enough zero n form number r p q = absurd (omega arith)
 goes-enough (suc m) zero form number r p q = absurd (omega arith)
 goes-enough (suc m) (suc n) form number r p q =
     step_then-alike (record_at form number r) _ _ (λ packet rest e.
-      let h = length-rest form number r packet rest e in
-      goes-enough m n form (number + 1) rest (omega arith) (omega arith))
+    let h = length-rest form number r packet rest e in
+    goes-enough m n form (number + 1) rest (omega arith) (omega arith))
 
 -- the records are what stands at the front, and the records behind it
 pub records_step : (form : Form) (number : ℕ) (r : List ℕ) → records form number r ≡ step_then (record_at form number r) (λ packet rest. records form (number + 1) rest)
 unfolding records goes
 records_step form number r =
     step_then-alike (record_at form number r) _ _ (λ packet rest e.
-      let h = length-rest form number r packet rest e in
-      goes-enough (length r) (suc (length rest)) form (number + 1) rest (omega arith) (omega arith))
+    let h = length-rest form number r packet rest e in
+    goes-enough (length r) (suc (length rest)) form (number + 1) rest (omega arith) (omega arith))
 
 -- a number that stands in the head is that of the head
 number-head : (at : ℕ) (head more : List ℕ) → at + 4 ≤ length head → little_number 4 (drop at (head ++ more)) ≡ little_number 4 (drop at head)

@@ -72,4 +72,39 @@ impl CapReader {
             State::Unusable => false,
         }
     }
+    /// Reads the next packet. Broken: what follows is no record. ReadFault: the host could not read it.
+    pub fn next<H: Host>(&mut self, host: &mut H) -> Result<Next, CapFail>
+        requires usable { IsTrue (is_usable self.old.state) }
+        requires given { IsSome ((H.inputs host.old).name self.old.id.0) }
+        requires reach { InReach self.old (H.inputs host.old) }
+        ensures comes { IfSome (left self.old (H.inputs host.old)) (λ s. Comes result s (left self.new (H.inputs host.new))) }
+        ensures after { self.new ≡ reader_after result self.old }
+        ensures reach { InReach self.new (H.inputs host.new) }
+        ensures again { self.old.state ≡ State.Broken → (result ≡ Err CapFail.Broken) × (host.new ≡ host.old) }
+        ensures stamp { IfOk result (IsStampedBelow (43 * 10 ^ 17)) }
+        ensures inputs { OnlyRead self.old.id.0 (H.inputs host.old) (H.inputs host.new) (Takes result self.old.form self.old.number) }
+        ensures outputs { H.outputs host.new ≡ H.outputs host.old }
+        ensures files { H.files host.new ≡ H.files host.old }
+        ensures later { NoneFalls (H.faults host.old) (H.faults host.new) }
+        ensures cause { IsErrOf result CapFail.ReadFault → RoseAt (H.faults host.old CallKind.Read) (H.faults host.new CallKind.Read) ((H.inputs host.old).name self.old.id.0) }
+    {
+        if let State::Broken = self.state {
+            return Err(CapFail::Broken);
+        }
+        match read_record(self.alloc, host, self.id, self.form, self.number) {
+            Ok(Found::Packet(packet)) => {
+                self.number = self.number.saturating_add(1);
+                Ok(Next::Packet(packet))
+            }
+            Ok(Found::End) => Ok(Next::End),
+            Ok(Found::Broken) => {
+                self.state = State::Broken;
+                Err(CapFail::Broken)
+            }
+            Err(fail) => {
+                self.state = State::Unusable;
+                Err(CapFail::from(fail))
+            }
+        }
+    }
 }

@@ -40,7 +40,12 @@ fn packet(form: Form, number: u64, head: &[u8], bytes: Bytes) -> Packet
 }
 
 /// Reads `count` bytes; none where fewer follow.
-fn exactly<H: Host>(alloc: Global, host: &mut H, id: InId, count: usize) -> Result<Option<Bytes>, HostFail>
+fn exactly<H: Host>(
+    alloc: Global,
+    host: &mut H,
+    id: InId,
+    count: usize,
+) -> Result<Option<Bytes>, HostFail>
     requires given { IsSome ((H.inputs host.old).name id.0) }
     requires most { count ≤ MOST_BYTES }
     ensures inputs { OnlyRead id.0 (H.inputs host.old) (H.inputs host.new) (TakesCount result count ((H.inputs host.new).held id.0)) }
@@ -61,7 +66,13 @@ fn exactly<H: Host>(alloc: Global, host: &mut H, id: InId, count: usize) -> Resu
 }
 
 /// Reads the record at the front of an input, whose packet gets this number.
-pub fn read_record<H: Host>(alloc: Global, host: &mut H, id: InId, form: Form, number: u64) -> Result<Found, HostFail>
+pub fn read_record<H: Host>(
+    alloc: Global,
+    host: &mut H,
+    id: InId,
+    form: Form,
+    number: u64,
+) -> Result<Found, HostFail>
     requires { IsSome ((H.inputs host.old).name id.0) }
     ensures finds { IfSome ((H.inputs host.old).held id.0) (λ held. Finds result (record_at form number held) ((H.inputs host.new).held id.0)) }
     ensures stamp { IsStamped result (43 * 10 ^ 17) }
