@@ -1,5 +1,5 @@
 -- What a step of the records is to a reader that takes it.
-use Rattle.std.proofs.Common.{◌≡◌, ◌<◌, ◌≤◌, ◌+◌, ◌-◌, ◌^◌, min, ℕ, true, List, [], ◌∷◌, ◌++◌, length, Option, Some, None, IfSome, Err, Ok, refl, sym, ap, ◌∙◌, length-append, arith}
+use Rattle.std.proofs.Common.{◌≡◌, ◌<◌, ◌+◌, ◌-◌, ◌^◌, min, ℕ, true, List, [], length, Option, Some, None, IfSome, Err, Ok, refl, sym, ap, ◌∙◌, length-append, arith}
 use Rattle.std.specs.Prelude.{option_map}
 use Rattle.npd_host.specs.Host.{FrontIs}
 use Rattle.npd_host.specs.declared.host.HostFail.{HostFail}
@@ -9,12 +9,12 @@ use Rattle.pcap_in.specs.declared.form.Form.{Form}
 use Rattle.pcap_in.specs.declared.record.Found.TheVariants as found
 use Rattle.pcap_in.specs.declared.state.State.{State}
 use Rattle.pcap_in.specs.declared.state.State.TheVariants as state
-use Rattle.pcap_in.specs.declared.state.Next.TheVariants as next
+use Rattle.pcap_in.specs.declared.next.Next.TheVariants as next
 use Rattle.pcap_in.specs.declared.fail.CapFail.TheVariants as fail
 use Rattle.pcap_in.specs.Fail.{cap_fail_of}
-use Rattle.pcap_in.specs.Capture.{Seen, with_front, Step, AtEnd, Fault, One, record_at, step_then, records}
+use Rattle.pcap_in.specs.Capture.{Seen, Step, AtEnd, Fault, One, record_at, step_then, records}
 use Rattle.pcap_in.specs.Reading.{TakesRecord, Finds}
-use Rattle.pcap_in.specs.Reader.{Reader, is_usable, whole_end, broken_end, left_of, Comes, Takes, reader_after}
+use Rattle.pcap_in.specs.Reader.{Reader, is_usable, broken_end, left_of, Comes, Takes, reader_after}
 use Rattle.pcap_in.proofs.Records.{records_step, length-rest}
 
 -- a usable reader that met nothing broken is reading

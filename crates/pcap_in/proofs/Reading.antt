@@ -1,5 +1,5 @@
 -- What the reading of a record's head, and then of its captured bytes, comes to.
-use Rattle.std.proofs.Common.{◌≡◌, ◌<◌, ◌≤◌, ◌+◌, ℕ, List, [], ◌++◌, length, take, drop, Option, Some, None, IfSome, Err, Ok, sym, ap, ◌∙◌, append_assoc, length-append, length-drop, arith}
+use Rattle.std.proofs.Common.{◌≡◌, ◌≤◌, ℕ, List, ◌++◌, length, take, drop, Option, Some, None, IfSome, Err, Ok, ap, ◌∙◌, append_assoc, length-append, length-drop, arith}
 use Rattle.std.proofs.lemmas.Bool.Decides.{nat_tests}
 use Rattle.std.proofs.lemmas.List.{take_all}
 use Rattle.byteorder.specs.Endian.{little_number}

@@ -1,12 +1,12 @@
 -- What stands at the front of a capture's records, and the law of the records.
-use Rattle.std.proofs.Common.{◌≡◌, ◌<◌, ◌≤◌, ◌-◌, ◌+◌, ◌⊎◌, inl, inr, ℕ, suc, zero, Bool, true, false, cond, eqb, ltb, List, [], ◌∷◌, ◌++◌, length, take, drop, refl, sym, ap, ◌∙◌, append-nil, length-append, length-drop, arith}
+use Rattle.std.proofs.Common.{◌≡◌, ◌<◌, ◌≤◌, ◌+◌, ◌⊎◌, inl, inr, ℕ, suc, zero, Bool, true, false, cond, eqb, ltb, List, [], ◌∷◌, ◌++◌, length, take, drop, refl, sym, ap, ◌∙◌, append-nil, length-append, length-drop, arith}
 use Rattle.std.proofs.lemmas.Bool.Decides.{nat_tests}
 use Rattle.std.proofs.lemmas.List.{take_at, drop_at, drop-append-le, drop-drop}
 use Rattle.byteorder.specs.Endian.{little_number}
 use Rattle.byteorder.specs.Numbers.{little_from-append}
 use Rattle.db_model.specs.declared.packet.Packet.{Packet}
 use Rattle.pcap_in.specs.declared.form.Form.{Form}
-use Rattle.pcap_in.specs.Capture.{End, Whole, Broken, Seen, with_front, Step, AtEnd, Fault, One, captured, packet_of, record_at, step_then, goes, records}
+use Rattle.pcap_in.specs.Capture.{Seen, with_front, Step, AtEnd, Fault, One, captured, packet_of, record_at, step_then, goes, records}
 
 -- the tests of `record_at`, on the length n and the captured length c
 abbrev pub tested : ℕ → ℕ → Step → Step

@@ -1,6 +1,6 @@
 -- What a capture is, taken on the whole list of its bytes: its packets in order, and how they end. The layout is that
 -- of a pcap file with microseconds and numbers that stand lowest byte first.
-use Rattle.std.specs.Prelude.{◌≡◌, ℕ, suc, zero, ◌+◌, ◌*◌, ◌%◌, ◌^◌, List, [], ◌∷◌, ◌++◌, length, take, drop, Option, Some, None, Result, Ok, Err, if◌then◌else◌, ◌==◌, nat_lt}
+use Rattle.std.specs.Prelude.{ℕ, suc, zero, ◌+◌, ◌*◌, ◌%◌, ◌^◌, List, [], ◌∷◌, ◌++◌, length, take, drop, Option, Some, None, Result, Ok, Err, if◌then◌else◌, ◌==◌, nat_lt}
 use Rattle.byteorder.specs.Endian.{little_number}
 use Rattle.db_model.specs.declared.packet.Packet.{Packet}
 use Rattle.pcap_in.specs.declared.form.Form.{Form}

@@ -7,8 +7,8 @@ use Rattle.pcap_in.specs.declared.state.State.{State}
 use Rattle.pcap_in.specs.declared.state.State.TheVariants as state
 use Rattle.pcap_in.specs.declared.fail.CapFail.{CapFail}
 use Rattle.pcap_in.specs.declared.fail.CapFail.TheVariants as fail
-use Rattle.pcap_in.specs.declared.state.Next.{Next}
-use Rattle.pcap_in.specs.declared.state.Next.TheVariants as next
+use Rattle.pcap_in.specs.declared.next.Next.{Next}
+use Rattle.pcap_in.specs.declared.next.Next.TheVariants as next
 use Rattle.pcap_in.specs.Capture.{Whole, Broken, Seen, with_front, One, header, record_at, records, cap}
 use Rattle.pcap_in.specs.Reading.{record_length}
 
@@ -84,6 +84,13 @@ reader_after (Ok next.End) r = r
 reader_after (Err fail.Broken) r = record r { state = state.Broken }
 reader_after (Err fail.ReadFault) r = record r { state = state.Unusable }
 reader_after (Err fail.NoMemory) r = record r { state = state.Unusable }
+
+-- whether the reader may be read further after this answer of `next`
+abbrev pub usable_after : Result Next CapFail → Bool
+usable_after (Ok item) = true
+usable_after (Err fail.Broken) = true
+usable_after (Err fail.ReadFault) = false
+usable_after (Err fail.NoMemory) = false
 
 -- a packet's stamp is below this
 abbrev pub IsStampedBelow : ℕ → Next → Type 0

@@ -5,11 +5,11 @@
 
 mod fail;
 mod form;
+mod next;
 mod reader;
 mod record;
 mod state;
 
 pub use fail::CapFail;
-pub use form::Form;
+pub use next::Next;
 pub use reader::CapReader;
-pub use state::{Next, State};

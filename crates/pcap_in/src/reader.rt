@@ -2,12 +2,13 @@ ghost use Rattle.std.specs.Prelude.{◌≡◌, ◌<◌, ◌*◌, ◌^◌, IsTrue
 ghost use Rattle.npd_host.specs.declared.host.CallKind.{CallKind};
 ghost use Rattle.npd_host.specs.Host.{NoneFalls, RoseAt};
 ghost use Rattle.pcap_in.specs.Reading.{OnlyRead};
-ghost use Rattle.pcap_in.specs.Reader.{is_usable, left, InReach, Begins, TakesHeader, Comes, Takes, reader_after, IsStampedBelow};
+ghost use Rattle.pcap_in.specs.Reader.{is_usable, left, InReach, Begins, TakesHeader, Comes, Takes, reader_after, usable_after, IsStampedBelow};
 
 use crate::fail::CapFail;
 use crate::form::{Form, HEADER, form_in};
+use crate::next::Next;
 use crate::record::{Found, read_record};
-use crate::state::{Next, State};
+use crate::state::State;
 use npd_host::{Host, InId, fill};
 use std::alloc::Global;
 use std::marker::Model;
@@ -72,13 +73,17 @@ impl CapReader {
             State::Unusable => false,
         }
     }
-    /// Reads the next packet. Broken: what follows is no record. ReadFault: the host could not read it.
+
+    /// Reads the next packet. Broken: what follows is no record, and each later call answers the same.
+    /// ReadFault: the host could not read it. After ReadFault and NoMemory the reader is done with.
     pub fn next<H: Host>(&mut self, host: &mut H) -> Result<Next, CapFail>
         requires usable { IsTrue (is_usable self.old.state) }
         requires given { IsSome ((H.inputs host.old).name self.old.id.0) }
         requires reach { InReach self.old (H.inputs host.old) }
         ensures comes { IfSome (left self.old (H.inputs host.old)) (λ s. Comes result s (left self.new (H.inputs host.new))) }
         ensures after { self.new ≡ reader_after result self.old }
+        ensures id { self.new.id ≡ self.old.id }
+        ensures usable { is_usable self.new.state ≡ usable_after result }
         ensures reach { InReach self.new (H.inputs host.new) }
         ensures again { self.old.state ≡ State.Broken → (result ≡ Err CapFail.Broken) × (host.new ≡ host.old) }
         ensures stamp { IfOk result (IsStampedBelow (43 * 10 ^ 17)) }

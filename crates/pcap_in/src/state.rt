@@ -1,13 +1,3 @@
-use db_model::Packet;
-
-/// What a reader of a capture gives next.
-#[derive(Debug, Drop)]
-pub enum Next {
-    Packet(Packet),
-    /// Nothing is left.
-    End,
-}
-
 /// How a reader of a capture stands.
 #[derive(Clone, Copy, Debug, PartialEq, Eq)]
 pub enum State {

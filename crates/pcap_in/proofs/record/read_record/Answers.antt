@@ -1,7 +1,6 @@
-use Rattle.std.proofs.Common.{◌≡◌, ◌++◌, length, arith, ap, ◌∙◌, sym}
+use Rattle.std.proofs.Common.{◌++◌, arith, ◌∙◌, sym}
 use Rattle.std.proofs.lemmas.Result.{err_from_is_err_and}
 use Rattle.npd_host.proofs.Transfers.{gave_then}
-use Rattle.pcap_in.specs.Capture.{captured}
 use Rattle.pcap_in.proofs.Reading.{Gave-whole, captured-slice, TakesRecord-packet, Finds-packet, TakesRecord-fail}
 use Rattle.pcap_in.proofs.record.read_record.Goals as goal
 

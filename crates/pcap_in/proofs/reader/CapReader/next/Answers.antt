@@ -1,4 +1,4 @@
-use Rattle.std.proofs.Common.{rules, ℕ, Err, ◌≡◌, ap, ◌∙◌, sym, arith}
+use Rattle.std.proofs.Common.{rules, ℕ, Err, ap}
 use Rattle.pcap_in.proofs.ReaderLemmas.{reading, Comes-end, Comes-broken, Comes-packet, Comes-refusal, Takes-refusal, reader_after-refusal, refusal-failed, reach-same, reach-next}
 use Rattle.pcap_in.proofs.reader.CapReader.next.Goals as goal
 
@@ -16,6 +16,8 @@ returns-in-Ok-Packet g c =
       comes = rw state_is (Comes-packet r.form r.number c.saturating_add-self-inside.result packet _ _ finds within number_is);
       after = ap (λ (number : ℕ). record { id = r.id; form = r.form; number = number; state = r.state }) number_is;
       reach = reach-next r.form r.number _ packet _ _ _ c.in-Ok-Packet.ensures.inputs.gave.front finds within number_is;
+      id = search rules;
+      usable = search rules;
       again = search rules;
       stamp = rw found_is at c.in-Ok-Packet.ensures.stamp;
       inputs = rw found_is at c.in-Ok-Packet.ensures.inputs;
@@ -37,6 +39,8 @@ returns-in-Ok-End g c =
       comes = rw state_is (Comes-end r.form r.number _ _ finds);
       after = search rules;
       reach = reach-same r.number _ _ _ c.in-Ok-End.ensures.inputs.gave.front within;
+      id = search rules;
+      usable = search rules;
       again = search rules;
       stamp = search rules;
       inputs = rw found_is at c.in-Ok-End.ensures.inputs;
@@ -58,6 +62,8 @@ returns-in-Ok-Broken g c =
       comes = rw state_is (Comes-broken r.form r.number _ finds);
       after = search rules;
       reach = reach-same r.number _ _ _ c.in-Ok-Broken.ensures.inputs.gave.front within;
+      id = search rules;
+      usable = search rules;
       again = search rules;
       stamp = search rules;
       inputs = rw found_is at c.in-Ok-Broken.ensures.inputs;
@@ -76,6 +82,8 @@ returns-in-Err g c =
       comes = Comes-refusal c.in-Err.fail _ _;
       after = reader_after-refusal c.in-Err.fail _;
       reach = reach-same r.number _ _ _ read.gave.front within;
+      id = search rules;
+      usable = search rules;
       again = search rules;
       stamp = search rules;
       inputs = record {
