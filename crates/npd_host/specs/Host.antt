@@ -1,5 +1,5 @@
 -- What a host is seen as: its inputs, its outputs, and a count of faults for each kind of call and each name.
-use Rattle.std.specs.Prelude.{◌≡◌, ◌≤◌, ◌+◌, ◌-◌, ◌^◌, min, ℕ, List, [], ◌++◌, Option, Some, None, IfSome}
+use Rattle.std.specs.Prelude.{◌≡◌, ◌≤◌, ◌<◌, ◌+◌, ◌-◌, ◌^◌, min, ℕ, List, [], ◌++◌, length, Option, Some, None, IfSome}
 use Rattle.std.specs.Io.KnownBytes.{append_known}
 use Rattle.npd_host.specs.declared.host.CallKind.{CallKind}
 
@@ -50,7 +50,7 @@ pub record Took (id : ℕ) (old new : Outputs) (bytes : List ℕ) : Type 0 where
 pub record TookPart (id : ℕ) (old new : Outputs) (bytes : List ℕ) : Type 0 where
   pub front : List ℕ
   pub back : List ℕ
-  pub proper : (back ≡ []) → ⊥
+  pub proper : 0 < length back
   pub parts : bytes ≡ front ++ back
   pub took : Took id old new front
 

@@ -3,5 +3,7 @@
 #![tactic(auto)]
 
 mod host;
+mod transfer;
 
 pub use host::{CallKind, Host, HostFail, InId, OutId};
+pub use transfer::{fill, write_all};

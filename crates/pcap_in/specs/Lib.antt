@@ -1,0 +1,4 @@
+pub mod Capture
+pub mod Fail
+pub mod Reading
+pub mod Reader
