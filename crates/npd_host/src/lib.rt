@@ -2,6 +2,9 @@
 //! fails only with a count that rose; the layers above are proved over it once, for every host.
 #![tactic(auto)]
 
+mod counts;
 mod host;
+mod memory;
 
 pub use host::{CallKind, Host, HostFail, InId, OutId};
+pub use memory::MemHost;
