@@ -1,1 +1,4 @@
+mod Faults
+mod NamedLemmas
+mod Places
 pub mod Transfers

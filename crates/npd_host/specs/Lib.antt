@@ -1,1 +1,4 @@
+pub mod Counts
 pub mod Host
+pub mod MemHost
+pub mod Named

@@ -3,6 +3,8 @@ ghost use Rattle.std.specs.Io.KnownBytes.{IsAtEnd};
 ghost use Rattle.npd_host.specs.declared.host.CallKind.{CallKind};
 ghost use Rattle.npd_host.specs.Host.{Inputs, Outputs, OpensInput, OpensOutput, Gave, Took, NoneFalls, Rose, RoseAt};
 
+use db_model::NoMemory;
+
 /// An input that a host opened.
 #[derive(Clone, Copy, Debug, PartialEq, Eq)]
 pub struct InId(pub u64);
@@ -26,6 +28,16 @@ pub enum HostFail {
     /// The host could not do it: the count of the call's kind and name rose.
     Failed,
     NoMemory,
+}
+
+impl From<NoMemory> for HostFail {
+    ghost use Rattle.npd_host.specs.declared.host.HostFail.{HostFail};
+
+    ghost from_gives = { λ _ fail. fail ≡ HostFail.NoMemory };
+
+    fn from(_: NoMemory) -> HostFail {
+        HostFail::NoMemory
+    }
 }
 
 /// Named inputs and outputs. The name `-` is standard input or standard output.

@@ -2,8 +2,11 @@
 //! fails only with a count that rose; the layers above are proved over it once, for every host.
 #![tactic(auto)]
 
+mod counts;
 mod host;
+mod memory;
 mod transfer;
 
 pub use host::{CallKind, Host, HostFail, InId, OutId};
+pub use memory::MemHost;
 pub use transfer::{fill, write_all};
