@@ -3,3 +3,7 @@ pub mod Status
 pub mod SimpleText
 pub mod Decoding
 pub mod Pdml
+pub mod Causes
+pub mod Written
+pub mod Capture
+pub mod Run

@@ -2,13 +2,19 @@
 //! the outputs have taken then.
 #![tactic(auto)]
 
+mod capture;
 mod decode;
+mod load;
 mod markup;
+mod output;
 mod pdml;
 mod plan;
+mod reader;
+mod run;
 mod simple;
 mod status;
 
 pub use plan::Plan;
+pub use run::run_serial;
 pub use simple::{SimpleDb, SimpleField, SimpleProtocol};
 pub use status::{Part, Role, Status};

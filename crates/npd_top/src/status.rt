@@ -63,6 +63,16 @@ pub enum Status {
     Unbuilt { part: Part },
 }
 
+impl From<AllocError> for Status {
+    ghost use Rattle.npd_top.specs.declared.status.Status.TheVariants.{NoMemory as out_of_memory};
+
+    ghost from_gives = { λ _ status. status ≡ out_of_memory };
+
+    fn from(_: AllocError) -> Status {
+        Status::NoMemory
+    }
+}
+
 impl Status {
     /// The process's exit number: 0 for `Done`, 3 to 5 for `Open`, `Read` and `Write`, 12 for `NoMemory`, 20 for
     /// `Unbuilt`. Takes no memory.

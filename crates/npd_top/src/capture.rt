@@ -1,0 +1,104 @@
+ghost use Rattle.std.specs.Prelude.{◌≡◌, IsTrue, IsSome, IfSome, IfErr, IfOk};
+ghost use Rattle.npd_host.specs.declared.host.CallKind.{CallKind};
+ghost use Rattle.npd_host.specs.Host.{NoneFalls, Rose, RoseAt};
+ghost use Rattle.pcap_in.specs.Reader.{is_usable, left, InReach};
+ghost use Rattle.pcap_in.specs.Capture.{cap};
+ghost use Rattle.npd_top.specs.Capture.{NextIs, PacketsAre, CaptureIs};
+ghost use Rattle.npd_top.specs.Causes.{capture_status, HasReadCause, HasCaptureCause};
+
+use crate::status::{Part, Role, Status};
+use db_model::Packet;
+use npd_host::{Host, HostFail};
+use pcap_in::{CapFail, CapReader, Next};
+use sqlite_items::Items;
+use std::alloc::Global;
+
+/// The status of a capture that can't be read on.
+fn status_of(fail: CapFail) -> Status
+    ensures { result ≡ capture_status fail }
+{
+    match fail {
+        CapFail::Broken => Status::Unbuilt {
+            part: Part::Capture,
+        },
+        CapFail::ReadFault => Status::Read { role: Role::Cap },
+        CapFail::NoMemory => Status::NoMemory,
+    }
+}
+
+/// The next packet, or none at the capture's end.
+fn next_packet<H: Host>(host: &mut H, reader: &mut CapReader) -> Result<Option<Packet>, Status>
+    requires usable { IsTrue (is_usable reader.old.state) }
+    requires given { IsSome ((H.inputs host.old).name reader.old.id.0) }
+    requires reach { InReach reader.old (H.inputs host.old) }
+    ensures next { IfSome (left reader.old (H.inputs host.old)) (λ seen. NextIs result seen (left reader.new (H.inputs host.new))) }
+    ensures id { reader.new.id ≡ reader.old.id }
+    ensures usable { IfOk result (λ _. IsTrue (is_usable reader.new.state)) }
+    ensures reach { InReach reader.new (H.inputs host.new) }
+    ensures names { (H.inputs host.new).name ≡ (H.inputs host.old).name }
+    ensures outputs { H.outputs host.new ≡ H.outputs host.old }
+    ensures files { H.files host.new ≡ H.files host.old }
+    ensures later { NoneFalls (H.faults host.old) (H.faults host.new) }
+    ensures cause { IfErr result (λ status. HasReadCause status (H.faults host.old CallKind.Read) (H.faults host.new CallKind.Read) ((H.inputs host.old).name reader.old.id.0)) }
+{
+    match reader.next(host) {
+        Ok(Next::Packet(packet)) => Ok(Some(packet)),
+        Ok(Next::End) => Ok(None),
+        Err(fail) => Err(status_of(fail)),
+    }
+}
+
+/// All packets of a capture that ends whole with at most `most` of them.
+fn read_packets<H: Host>(
+    alloc: Global,
+    host: &mut H,
+    mut reader: CapReader,
+    most: u32,
+) -> Result<Items<Packet>, Status>
+    requires usable { IsTrue (is_usable reader.state) }
+    requires given { IsSome ((H.inputs host.old).name reader.id.0) }
+    requires reach { InReach reader (H.inputs host.old) }
+    ensures packets { IfSome (left reader (H.inputs host.old)) (PacketsAre most result) }
+    ensures outputs { H.outputs host.new ≡ H.outputs host.old }
+    ensures files { H.files host.new ≡ H.files host.old }
+    ensures later { NoneFalls (H.faults host.old) (H.faults host.new) }
+    ensures cause { IfErr result (λ status. HasReadCause status (H.faults host.old CallKind.Read) (H.faults host.new CallKind.Read) ((H.inputs host.old).name reader.id.0)) }
+{
+    let mut packets = Items::new(alloc);
+    for _count in 0..most {
+        match next_packet(host, &mut reader)? {
+            Some(packet) => packets.push(packet)?,
+            None => return Ok(packets),
+        }
+    }
+    match next_packet(host, &mut reader)? {
+        Some(_) => Err(Status::Unbuilt {
+            part: Part::Capture,
+        }),
+        None => Ok(packets),
+    }
+}
+
+/// Opens a capture and reads it whole: at most 4,294,967,295 packets.
+pub fn read_capture<H: Host>(
+    alloc: Global,
+    host: &mut H,
+    name: &str,
+    most: u32,
+) -> Result<Items<Packet>, Status>
+    ensures packets { IfSome (H.files host.old name.now) (λ bytes. CaptureIs most result (cap bytes)) }
+    ensures outputs { H.outputs host.new ≡ H.outputs host.old }
+    ensures files { H.files host.new ≡ H.files host.old }
+    ensures later { NoneFalls (H.faults host.old) (H.faults host.new) }
+    ensures cause { IfErr result (λ status. HasCaptureCause status (H.faults host.old) (H.faults host.new) name.now) }
+{
+    let id = match host.open_in(name) {
+        Ok(id) => id,
+        Err(HostFail::Failed) => return Err(Status::Open { role: Role::Cap }),
+        Err(HostFail::NoMemory) => return Err(Status::NoMemory),
+    };
+    match CapReader::begin(alloc, host, id) {
+        Ok(reader) => read_packets(alloc, host, reader, most),
+        Err(fail) => Err(status_of(fail)),
+    }
+}

@@ -1,0 +1,62 @@
+ghost use Rattle.std.specs.Prelude.{◌≡◌, map, string_bytes};
+ghost use Rattle.npd_host.specs.Host.{NoneFalls};
+ghost use Rattle.npd_top.specs.Run.{Says, HasCause, Means, IsComplete};
+
+use crate::capture::read_capture;
+use crate::load::load;
+use crate::output::write_pdml;
+use crate::plan::{Plan, read_plan};
+use crate::status::{Part, Status};
+use db_model::NoMemory;
+use npd_host::Host;
+use std::alloc::Global;
+
+/// How many bytes of a database file are read at most: one more than a database has.
+const MOST_TEXT: usize = 1_048_577;
+
+/// Loads the database, reads the capture, and writes the PDML.
+fn run_plan<H: Host>(alloc: Global, host: &mut H, plan: &Plan) -> Status
+    ensures says { Says result plan.now (H.files host.old) (H.outputs host.old) (H.outputs host.new) }
+    ensures cause { HasCause result plan.now (H.faults host.old) (H.faults host.new) }
+    ensures files { H.files host.new ≡ H.files host.old }
+    ensures later { NoneFalls (H.faults host.old) (H.faults host.new) }
+{
+    let db = match load(alloc, host, plan.db.as_str(), MOST_TEXT) {
+        Ok(db) => db,
+        Err(status) => return status,
+    };
+    let packets = match read_capture(alloc, host, plan.cap.as_str(), u32::MAX) {
+        Ok(packets) => packets,
+        Err(status) => return status,
+    };
+    match write_pdml(
+        alloc,
+        host,
+        plan.pdml.as_str(),
+        db.as_slice(),
+        packets.as_slice(),
+    ) {
+        Ok(()) => Status::Done,
+        Err(status) => status,
+    }
+}
+
+/// Serves the command words `decode --db D --cap C --pdml P --workers 0` on a host: reads the database file D
+/// and the capture C, and writes to P the PDML of decoding the packets one by one, in order. It always returns.
+///
+/// The status says how it ended. `Means` is what each status promises, for every list of words, every told
+/// input and every list of failing calls: which status comes exactly where, which only where the count of
+/// faults of the role's own name rose in this call, and what the output has taken then.
+pub fn run_serial<H: Host>(alloc: Global, words: &[String], host: &mut H) -> Status
+    ensures means { Means result (map string_bytes words.now) (H.files host.old) (H.outputs host.old) (H.outputs host.new) (H.faults host.old) (H.faults host.new) }
+    ensures complete { IsComplete result (map string_bytes words.now) (H.files host.old) (H.faults host.old) (H.faults host.new) }
+    ensures untouched { result ≡ Status.Unbuilt Part.Words → host.new ≡ host.old }
+    ensures files { H.files host.new ≡ H.files host.old }
+    ensures later { NoneFalls (H.faults host.old) (H.faults host.new) }
+{
+    match read_plan(alloc, words) {
+        Ok(Some(plan)) => run_plan(alloc, host, &plan),
+        Ok(None) => Status::Unbuilt { part: Part::Words },
+        Err(NoMemory) => Status::NoMemory,
+    }
+}
