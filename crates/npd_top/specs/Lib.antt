@@ -3,3 +3,5 @@ pub mod Status
 pub mod SimpleText
 pub mod Decoding
 pub mod Pdml
+pub mod Reader
+pub mod Reading

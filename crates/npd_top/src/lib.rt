@@ -6,6 +6,7 @@ mod decode;
 mod markup;
 mod pdml;
 mod plan;
+mod reader;
 mod simple;
 mod status;
 
