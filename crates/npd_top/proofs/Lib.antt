@@ -2,4 +2,11 @@ pub mod Chains
 pub mod Fields
 pub mod Literals
 pub mod Sizes
-pub mod Spelling
+pub mod Binds
+pub mod Items
+pub mod NameText
+pub mod SizeText
+pub mod FieldText
+pub mod FormatText
+pub mod ProtocolText
+pub mod Refusals

@@ -1,5 +1,5 @@
 -- What stands behind a literal.
-use Rattle.std.proofs.Common.{◌≡◌, Bool, true, false, ◌&&◌, cond, ℕ, List, [], ◌∷◌, ◌++◌, length, take, drop, Option, Some, None, refl, sym, ap, ◌∙◌, nat_eq, eqb}
+use Rattle.std.proofs.Common.{◌≡◌, Bool, true, false, ◌&&◌, ℕ, List, [], ◌∷◌, ◌++◌, length, take, drop, Option, Some, None, refl, nat_eq, eqb}
 use Rattle.std.proofs.lemmas.Bool.{eqb-true, eq-eqb}
 use Rattle.std.specs.Prelude.{if◌then◌else◌, ◌==◌}
 use Rattle.std.specs.Cmp.Lexicographic.{pointwise}
@@ -32,7 +32,7 @@ after-sound (byte ∷ bytes) [] rest e = cc
 after-sound (byte ∷ bytes) (first ∷ others) rest e =
     let tail = after-sound bytes others rest in
     same (eqb first byte) refl e tail
-    where
-      same : (b : Bool) → eqb first byte ≡ b → (if b then after bytes others else None) ≡ Some rest → (after bytes others ≡ Some rest → others ≡ bytes ++ rest) → (first ∷ others) ≡ (byte ∷ (bytes ++ rest))
-      same true is e tail = let t = tail e in let h = eqb-true first byte is in cc
-      same false is e tail = absurd (none_is_some e)
+  where
+    same : (b : Bool) → eqb first byte ≡ b → (if b then after bytes others else None) ≡ Some rest → (after bytes others ≡ Some rest → others ≡ bytes ++ rest) → (first ∷ others) ≡ (byte ∷ (bytes ++ rest))
+    same true is e tail = let t = tail e in let h = eqb-true first byte is in cc
+    same false is e tail = absurd (none_is_some e)

@@ -1,4 +1,4 @@
-use Rattle.std.proofs.Common.{◌≡◌, refl, sym, ◌∙◌, ap, Some}
+use Rattle.std.proofs.Common.{refl, sym, ap, Some}
 use Rattle.npd_top.proofs.Literals.{after-by_front}
 use Rattle.npd_top.proofs.reader.Reader.goes_past.Goals as goal
 
