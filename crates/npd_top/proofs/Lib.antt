@@ -9,4 +9,5 @@ pub mod SizeText
 pub mod FieldText
 pub mod FormatText
 pub mod ProtocolText
+pub mod DatabaseText
 pub mod Refusals
