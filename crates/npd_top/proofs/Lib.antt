@@ -10,4 +10,6 @@ pub mod FieldText
 pub mod FormatText
 pub mod ProtocolText
 pub mod DatabaseText
+pub mod Promises
+pub mod Consistency
 pub mod Refusals

@@ -1,5 +1,7 @@
 -- What a reader of the database text has read, of what it was to read.
 use Rattle.std.specs.Prelude.{◌≡◌, ℕ, List, Option, Some, None, Result, Ok, Err}
+use Rattle.npd_top.specs.SimpleText.{IsSimple}
+use Rattle.npd_top.specs.declared.simple.SimpleProtocol.{SimpleProtocol}
 use Rattle.npd_top.specs.declared.reader.ReadFail.{ReadFail}
 use Rattle.npd_top.specs.declared.reader.ReadFail.TheVariants.{NotSimple, NoMemory}
 
@@ -20,3 +22,7 @@ abbrev pub IsWholeRead : {A : Type 0} → Result A ReadFail → Option A → Typ
 IsWholeRead (Ok value) read = read ≡ Some value
 IsWholeRead (Err NotSimple) read = read ≡ None
 IsWholeRead (Err NoMemory) read = Unit {0}
+
+-- a text spells at most one database
+abbrev pub SpellsOneDatabase : Type 0
+SpellsOneDatabase = (text : List ℕ) (one other : List SimpleProtocol) → IsSimple text one → IsSimple text other → one ≡ other

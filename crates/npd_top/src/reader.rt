@@ -1,15 +1,24 @@
-ghost use Rattle.std.specs.Prelude.{◌≡◌, ◌↔◌, ◌≤◌, List, ℕ, None, Some, length, drop, IsTrue, IfOk, MatchBool};
+ghost use Rattle.std.specs.Prelude.{◌≡◌, ◌≤◌, List, None, Some, length, IsTrue, IfOk, MatchBool, MatchResult};
 ghost use Rattle.std.specs.List.{prefix_len, list_all};
 ghost use Rattle.std.specs.Char.{is_ascii_digit};
 ghost use Rattle.std.specs.Str.Parse.{digits_value};
 ghost use Rattle.db_model.specs.Name.{continues_name as spec_continues_name};
+ghost use Rattle.npd_top.specs.SimpleText;
+ghost use Rattle.npd_top.specs.SimpleText.{IsSimple};
 ghost use Rattle.npd_top.specs.Reading;
-ghost use Rattle.npd_top.specs.Reader.{IsRead, IsPast, IsWholeRead};
+ghost use Rattle.npd_top.specs.Reader.{IsRead, IsPast, IsWholeRead, SpellsOneDatabase};
+ghost use Rattle.npd_top.specs.declared.simple.SimpleProtocol.{SimpleProtocol as AnyProtocol};
 
 use crate::simple::{SimpleDb, SimpleField, SimpleProtocol};
 use db_model::{Name, NoMemory, continues_name, is_name};
 use sqlite_items::Items;
 use std::alloc::{AllocError, Global};
+
+/// The most bytes that the text of a simple database has.
+const MOST_TEXT: usize = 1_048_576;
+
+/// The most protocols that a simple database has.
+const MOST_PROTOCOLS: usize = 1_024;
 
 /// Why a text was not read.
 #[derive(Clone, Copy, Debug, PartialEq, Eq)]
@@ -29,9 +38,20 @@ impl From<NoMemory> for ReadFail {
     }
 }
 
+impl From<AllocError> for ReadFail {
+    ghost use Rattle.npd_top.specs.declared.reader.ReadFail.TheVariants.{NoMemory as OutOfMemory};
+
+    ghost from_gives = { λ _ fail. fail ≡ OutOfMemory };
+
+    fn from(_: AllocError) -> ReadFail {
+        ReadFail::NoMemory
+    }
+}
+
 /// Reads the text of a simple database from the front on.
-pub struct Reader<'a> {
-    pub rest: &'a [u8],
+#[derive(Drop)]
+struct Reader<'a> {
+    rest: &'a [u8],
 }
 
 /// How many bytes at the front go on with a name.
@@ -213,14 +233,89 @@ impl<'a> Reader<'a> {
             Err(ReadFail::NotSimple)
         }
     }
-}
 
-impl From<AllocError> for ReadFail {
-    ghost use Rattle.npd_top.specs.declared.reader.ReadFail.TheVariants.{NoMemory as OutOfMemory};
-
-    ghost from_gives = { λ _ fail. fail ≡ OutOfMemory };
-
-    fn from(_: AllocError) -> ReadFail {
-        ReadFail::NoMemory
+    /// Reads a whole text that isn't too long, and whose protocols fit together.
+    #[tactic(auto, unfolding(crate::specs::Reading::simple_in))]
+    fn simple_database(&mut self, alloc: Global) -> Result<SimpleDb, ReadFail>
+        ensures { IsWholeRead result (Reading.simple_in self.old.rest.now) }
+    {
+        if self.rest.len() > MOST_TEXT {
+            return Err(ReadFail::NotSimple);
+        }
+        let db = self.database(alloc)?;
+        if is_consistent(db.as_slice()) {
+            Ok(db)
+        } else {
+            Err(ReadFail::NotSimple)
+        }
     }
 }
+
+/// Whether a protocol of this name is among these.
+fn is_declared(protocols: &[SimpleProtocol], name: &[u8]) -> bool
+    ensures { result ≡ SimpleText.is_declared protocols.now name.now }
+{
+    protocols
+        .iter()
+        .any(|protocol| protocol.name.as_slice() == name)
+}
+
+/// Whether no two of these have one name.
+fn have_own_names(protocols: &[SimpleProtocol]) -> bool
+    ensures { result ≡ SimpleText.have_own_names protocols.now }
+{
+    let mut left = protocols;
+    while let Some((protocol, others)) = left.split_first() {
+        if is_declared(others, protocol.name.as_slice()) {
+            return false;
+        }
+        left = others;
+    }
+    true
+}
+
+/// Whether a next protocol, where there is one, is declared.
+fn is_next_declared(db: &[SimpleProtocol], next: &Option<Name>) -> bool
+    ensures { result ≡ SimpleText.is_next_declared db.now next.now }
+{
+    match next {
+        None => true,
+        Some(name) => is_declared(db, name.as_slice()),
+    }
+}
+
+/// Whether each next protocol is declared.
+fn are_nexts_declared(db: &[SimpleProtocol]) -> bool
+    ensures { result ≡ SimpleText.are_nexts_declared db.now db.now }
+{
+    db.iter()
+        .all(|protocol| is_next_declared(db, &protocol.next))
+}
+
+/// Whether a database has at most `MOST_PROTOCOLS` protocols with different names, none of them `payload`, and
+/// declares `startproto` and each next protocol.
+fn is_consistent(db: &[SimpleProtocol]) -> bool
+    ensures { result ≡ SimpleText.is_consistent db.now }
+{
+    db.len() <= MOST_PROTOCOLS
+        && have_own_names(db)
+        && !is_declared(db, b"payload")
+        && is_declared(db, b"startproto")
+        && are_nexts_declared(db)
+}
+
+/// Reads the text of a simple database. It is refused with `NotSimple` where it spells none, and at once where it has
+/// more than `MOST_TEXT` bytes.
+pub fn read_database(alloc: Global, text: &[u8]) -> Result<SimpleDb, ReadFail>
+    ensures simple { MatchResult result (IsSimple text.now)
+        (λ fail. fail ≡ ReadFail.NotSimple → (db : List AnyProtocol) → IsSimple text.now db → ⊥) }
+    ensures few { IfOk result (λ db. length db ≤ 1024) }
+{
+    let mut reader = Reader { rest: text };
+    reader.simple_database(alloc)
+}
+
+/// A text spells at most one simple database.
+pub fn spells_one_database()
+    ensures { SpellsOneDatabase }
+{}
