@@ -1,6 +1,8 @@
-ghost use Rattle.std.specs.Prelude.{◌≡◌};
+ghost use Rattle.std.specs.Prelude.{◌≡◌, ◌<◌, ◌≤◌, length, IsTrue};
 ghost use Rattle.std.specs.List.{list_all};
 ghost use Rattle.db_model.specs.Name;
+
+use crate::MOST_NAME;
 
 /// Whether a text is one of the operators that are words.
 #[tactic(auto, unfolding(crate::specs::Name::is_operator_word))]
@@ -62,7 +64,8 @@ fn all_continue(bytes: &[u8]) -> bool
 
 /// Whether a text is a letter or `_`, then letters, digits or `_`, at most 64 bytes in all.
 fn is_word(text: &[u8]) -> bool
-    ensures { result ≡ Name.is_word text.now }
+    ensures value { result ≡ Name.is_word text.now }
+    ensures bound { IsTrue result → (0 < length text.now) × (length text.now ≤ MOST_NAME) }
 {
     match text.split_first() {
         None => false,
@@ -73,7 +76,8 @@ fn is_word(text: &[u8]) -> bool
 /// Whether a text is a name: such a run, and no reserved word.
 #[tactic(auto, unfolding(crate::specs::Name::is_name))]
 pub fn is_name(text: &[u8]) -> bool
-    ensures { result ≡ Name.is_name text.now }
+    ensures value { result ≡ Name.is_name text.now }
+    ensures bound { IsTrue result → (0 < length text.now) × (length text.now ≤ MOST_NAME) }
 {
     is_word(text) && !is_reserved(text)
 }

@@ -1,9 +1,11 @@
-pub mod Words
-pub mod Status
-pub mod SimpleText
+pub mod Capture
+pub mod Causes
 pub mod Decoding
 pub mod Pdml
-pub mod Causes
-pub mod Written
-pub mod Capture
+pub mod Reader
+pub mod Reading
 pub mod Run
+pub mod SimpleText
+pub mod Status
+pub mod Words
+pub mod Written

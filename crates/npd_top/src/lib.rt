@@ -18,3 +18,6 @@ pub use plan::Plan;
 pub use run::run_serial;
 pub use simple::{SimpleDb, SimpleField, SimpleProtocol};
 pub use status::{Part, Role, Status};
+
+#[cfg(test)]
+mod tests;
