@@ -233,7 +233,7 @@ fn each_answer_to_an_input(rt: HostRuntime) -> Result<(), Fail> {
     let db = Some(ONE_PROTOCOL);
     let no_db = Some("<netpdl>\n</netpdl>\n");
     let cap = Some(whole.as_slice());
-    let cut = Some(&whole[..42]);
+    let cut = whole.get(..42);
     let words = (
         Status::Unbuilt { part: Part::Words },
         20,
