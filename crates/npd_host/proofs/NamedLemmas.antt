@@ -1,7 +1,7 @@
 -- What replacing or adding something named does to the bytes of each name.
-use Rattle.std.proofs.Common.{◌≡◌, ℕ, ◌<◌, ◌≤◌, Bool, true, false, cond, List, [], ◌∷◌, ◌++◌, length, set, get_or, Some, None, Option, refl, sym, ap, ◌∙◌, nat_lt, arith}
+use Rattle.std.proofs.Common.{◌≡◌, ℕ, ◌≤◌, Bool, true, false, cond, List, [], ◌∷◌, ◌++◌, length, set, get_or, Some, None, Option, refl, sym, ◌∙◌, nat_lt, arith}
 use Rattle.std.specs.List.{find, position, position_or_len}
-use Rattle.std.specs.Option.{option_map, option_or}
+use Rattle.std.specs.Option.{option_or}
 use Rattle.std.proofs.lemmas.Slice.Eq.{bytes_eq-Decides}
 use Rattle.std.proofs.lemmas.Bool.Decides.{nat_tests}
 use Rattle.std.proofs.lemmas.Option.{slice_get_past, cond_some}
@@ -36,9 +36,9 @@ option_or-none (Some x) = refl
 
 pub Puts-push : (xs : List Named) (y : Named) → None ≡ position (is_named y.name) xs → Puts (bytes_of xs) (bytes_of (xs ++ y ∷ [])) y.name y.bytes
 Puts-push xs y none = record {
-    put = rw (find-append (is_named y.name) xs (y ∷ []), find-none (is_named y.name) xs none, is_named-same y);
-    others = λ other h. rw (find-append (is_named other) xs (y ∷ []), is_named-other y other h, option_or-none (find (is_named other) xs));
-  }
+  put = rw (find-append (is_named y.name) xs (y ∷ []), find-none (is_named y.name) xs none, is_named-same y);
+  others = λ other h. rw (find-append (is_named other) xs (y ∷ []), is_named-other y other h, option_or-none (find (is_named other) xs));
+}
 
 pub Puts-set : (xs : List Named) (i : ℕ) (y : Named) → Some i ≡ position (is_named y.name) xs → Puts (bytes_of xs) (bytes_of (set xs i y)) y.name y.bytes
 Puts-set xs i y some =
