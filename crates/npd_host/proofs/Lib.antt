@@ -1,3 +1,5 @@
 mod Faults
+mod Finds
+mod NameCounts
 mod NamedLemmas
 mod Places

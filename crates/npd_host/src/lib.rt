@@ -3,8 +3,10 @@
 #![tactic(auto)]
 
 mod counts;
+mod files;
 mod host;
 mod memory;
 
 pub use host::{CallKind, Host, HostFail, InId, OutId};
+pub use files::FileHost;
 pub use memory::MemHost;
