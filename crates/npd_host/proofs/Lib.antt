@@ -1,4 +1,6 @@
 mod Faults
+mod Finds
+mod NameCounts
 mod NamedLemmas
 mod Places
 pub mod Transfers

@@ -1,14 +1,13 @@
 -- What a write to one place of a list does to the inputs that the list stands for.
-use Rattle.std.proofs.Common.{◌≡◌, ℕ, zero, suc, ◌+◌, ◌<◌, ◌≤◌, ◌^◌, min, Bool, true, false, cond, List, [], ◌∷◌, ◌++◌, length, set, get_or, take, drop, nat_lt, Some, None, Option, refl, sym, ap, ◌∙◌, inl, inr, arith}
+use Rattle.std.proofs.Common.{◌≡◌, ℕ, zero, suc, ◌+◌, ◌<◌, ◌≤◌, ◌^◌, true, false, List, [], ◌∷◌, length, set, take, drop, Some, refl, sym, ap, ◌∙◌, inl, inr, arith}
 use Rattle.std.proofs.Math.Path.{fun_ext}
 use Rattle.std.proofs.lemmas.Bool.Decides.{nat_tests}
 use Rattle.std.proofs.lemmas.List.{take-append-drop, length-drop}
 use Rattle.std.proofs.lemmas.Option.{slice_get_within}
-use Rattle.std.proofs.lemmas.Grind.{common_steps}
 use Rattle.std.specs.List.{slice_get}
 use Rattle.std.specs.Option.{IsSome, option_map, option_and_then}
 use Rattle.std.specs.Io.KnownBytes.{IsAtEnd}
-use Rattle.npd_host.specs.Host.{Gave, FrontIs}
+use Rattle.npd_host.specs.Host.{Gave}
 use Rattle.npd_host.specs.Named.{Named}
 use Rattle.std.proofs.lemmas.Slice.Eq.{bytes_eq-Decides}
 use Rattle.std.proofs.lemmas.Bool.{false≢true, cases_lt}
@@ -62,22 +61,22 @@ IsAtEnd-set xs id y within none =
 -- the last output of a name, where none after it has the name
 pub LastNamed-at : (xs : List Named) (id : ℕ) (x : Named) (name : List ℕ) → slice_get xs id ≡ Some x → bytes_eq x.name name ≡ true → ((later : ℕ) → id < later → (outputs_at xs).name later ≡ Some name → ⊥) → LastNamed (outputs_at xs) name x.bytes
 LastNamed-at xs id x name at same last = record {
-    id = id;
-    named = ap (option_map (λ (x : Named). x.name)) at ∙ ap Some ((bytes_eq-Decides x.name name).0 same);
-    taken = ap (option_map (λ (x : Named). x.bytes)) at;
-    last = last;
-  }
+  id = id;
+  named = ap (option_map (λ (x : Named). x.name)) at ∙ ap Some ((bytes_eq-Decides x.name name).0 same);
+  taken = ap (option_map (λ (x : Named). x.bytes)) at;
+  last = last;
+}
 
 -- one output more that hasn't the name
 pub none_named_more : (xs : List Named) (id : ℕ) (x : Named) (name : List ℕ) → slice_get xs id ≡ Some x → bytes_eq x.name name ≡ false → ((other : ℕ) → id + 1 ≤ other → (outputs_at xs).name other ≡ Some name → ⊥) → (other : ℕ) → id ≤ other → (outputs_at xs).name other ≡ Some name → ⊥
 none_named_more xs id x name at differs above other le named = elim (cases_lt id other) [
-      inl less ↦ above other (omega arith) named
-    | inr not_less ↦
+  | inl less ↦ above other (omega arith) named
+  | inr not_less ↦
       let here : other ≡ id = omega arith in
       let at_name = ap (option_map (λ (x : Named). x.name)) at in
       let same : x.name ≡ name = cc in
       false≢true (sym differs ∙ (bytes_eq-Decides x.name name).1 same)
-    ]
+]
 
 -- a given id is a place in the list
 pub within_given : {Y : Type 0} (f : Named → Y) (xs : List Named) (id : ℕ) → IsSome (option_map f (slice_get xs id)) → id < length xs

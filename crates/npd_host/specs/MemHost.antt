@@ -1,5 +1,5 @@
 -- What a `MemHost` is seen as, and the words of its calls.
-use Rattle.std.specs.Prelude.{◌≡◌, ◌<◌, ◌^◌, ◌+◌, ℕ, Bool, true, false, ◌&&◌, if◌then◌else◌, nat_lt, nat_eq, List, [], ◌∷◌, ◌++◌, length, slice_get, Option, Some, None, IfSome, Result, Ok, Err, refl}
+use Rattle.std.specs.Prelude.{◌≡◌, ◌<◌, ◌^◌, ℕ, Bool, true, false, ◌&&◌, if◌then◌else◌, nat_lt, List, [], ◌∷◌, ◌++◌, length, slice_get, Option, Some, None, IfSome, Result, Ok, Err, refl}
 use Rattle.std.specs.List.{Contains, count_by}
 use Rattle.std.specs.Option.{option_map, option_and_then}
 use Rattle.std.specs.Str.{bytes_eq}
@@ -87,9 +87,9 @@ failed_after (Err why) call failed = failed_with why call failed
 -- the call is counted, and it is noted where it failed
 abbrev pub after_call : {T : Type 0} → CallKind → List ℕ → Result T HostFail → HostState → HostState
 after_call kind name result host = record host {
-    calls = raised kind host.calls;
-    failed = failed_after result (record { kind = kind; name = name }) host.failed;
-  }
+  calls = raised kind host.calls;
+  failed = failed_after result (record { kind = kind; name = name }) host.failed;
+}
 
 -- no output has this name
 abbrev pub NoneNamed : Outputs → List ℕ → Type 0

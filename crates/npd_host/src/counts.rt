@@ -1,4 +1,6 @@
-ghost use Rattle.std.specs.Prelude.{◌≡◌};
+ghost use Rattle.std.specs.Prelude.{◌≡◌, ◌≤◌};
+ghost use Rattle.npd_host.specs.declared.host.CallKind.{CallKind};
+ghost use Rattle.npd_host.specs.Host.{Rose};
 ghost use Rattle.npd_host.specs.Counts.{count_at, raised};
 
 use crate::host::CallKind;
@@ -34,7 +36,9 @@ impl Counts {
 
     /// Adds one to the number of a kind.
     pub fn raise(&mut self, kind: CallKind)
-        ensures { self.new ≡ raised kind self.old }
+        ensures raised { self.new ≡ raised kind self.old }
+        ensures rose { Rose (count_at kind self.old) (count_at kind self.new) }
+        ensures later { (other : CallKind) → count_at other self.old ≤ count_at other self.new }
     {
         match kind {
             CallKind::OpenIn => self.open_in = self.open_in.saturating_add(1),

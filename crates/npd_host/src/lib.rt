@@ -3,10 +3,12 @@
 #![tactic(auto)]
 
 mod counts;
+mod files;
 mod host;
 mod memory;
 mod transfer;
 
 pub use host::{CallKind, Host, HostFail, InId, OutId};
+pub use files::FileHost;
 pub use memory::MemHost;
 pub use transfer::{fill, write_all};

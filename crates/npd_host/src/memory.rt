@@ -1,4 +1,4 @@
-ghost use Rattle.std.specs.Prelude.{◌≡◌, ◌<◌, ◌≤◌, ◌⊎◌, ◌++◌, ◌∷◌, [], min, None, Some, IfOk, OnOk, OnErr, IsSome, IsSomeAnd, IsErr, IsErrOf, IsOk, IsOkUnless, unwrap_or, MatchOption, length, take};
+ghost use Rattle.std.specs.Prelude.{◌≡◌, ◌<◌, ◌≤◌, ◌⊎◌, ◌++◌, ◌∷◌, [], min, None, Some, IfOk, OnOk, OnErr, IsSome, IsSomeAnd, IsErr, IsErrOf, IsOk, IsOkAnd, IsOkUnless, unwrap_or, MatchOption, length, take};
 ghost use Rattle.std.specs.Io.KnownBytes.{IsAtEnd};
 ghost use Rattle.npd_host.specs.Host.{OpensInput, OpensOutput, Gave, Took, NoneFalls, Rose, RoseAt};
 ghost use Rattle.npd_host.specs.Named.{bytes_of, Puts};
@@ -20,7 +20,7 @@ use named::NamedBytes;
 use std::alloc::Global;
 use std::marker::Model;
 
-/// A host in memory, which fails only as it was told and where an input is missing. It tells everything.
+/// A host in memory, which fails as it was told and where an input is missing. It tells everything.
 /// An id is the place in the list of its inputs or of its outputs.
 #[derive(Debug, Drop)]
 pub struct MemHost {
@@ -41,23 +41,23 @@ impl Model for MemHost {
     ghost Value = { HostState };
 
     ghost view = { λ host. record {
-        chunk = host.chunk;
-        files = host.files.items;
-        inputs = host.inputs.items;
-        outputs = host.outputs.items;
-        planned = host.planned.items;
-        calls = host.calls;
-        failed = host.failed.items;
+      chunk = host.chunk;
+      files = host.files.items;
+      inputs = host.inputs.items;
+      outputs = host.outputs.items;
+      planned = host.planned.items;
+      calls = host.calls;
+      failed = host.failed.items;
     } };
 
     ghost invariant = { λ host. 0 < host.chunk };
 }
 
 impl MemHost {
-    /// A host without files, whose reads give at most `chunk` bytes. Takes no memory.
+    /// A host without files, whose reads give at most `chunk` bytes. Takes no memory, so it is always `Ok`.
     pub fn new(alloc: Global, chunk: u32) -> Result<MemHost, NoMemory>
         requires { 0 < chunk }
-        ensures { IfOk result (λ host. host ≡ record { chunk = chunk; files = []; inputs = []; outputs = []; planned = []; calls = Counts.ZERO; failed = [] }) }
+        ensures { IsOkAnd result (λ host. host ≡ record { chunk = chunk; files = []; inputs = []; outputs = []; planned = []; calls = Counts.ZERO; failed = [] }) }
     {
         Ok(MemHost {
             alloc,
@@ -80,7 +80,8 @@ impl MemHost {
         files::put(self.alloc, &mut self.files, name, bytes)
     }
 
-    /// Lets the call numbered `nth`, from 0, of this kind fail.
+    /// Lets the call numbered `nth` of this kind fail. The calls of each kind are numbered from 0 over the
+    /// host's life.
     pub fn fail(&mut self, kind: CallKind, nth: u64) -> Result<(), NoMemory>
         ensures planned { OnOk result (self.new ≡ record self.old { planned = self.old.planned ++ record { kind = kind; nth = nth } ∷ [] }) }
         ensures left { OnErr result (self.new ≡ self.old) }
@@ -116,7 +117,7 @@ impl Host for MemHost {
         ensures later { NoneFalls (faults_in self.old.failed) (faults_in self.new.failed) }
         ensures cause { IsErrOf result HostFail.Failed → Rose (faults_in self.old.failed CallKind.OpenIn name.now) (faults_in self.new.failed CallKind.OpenIn name.now) }
 
-        // Beyond what every host keeps: it fails only as it was told, and as it was told.
+        // Beyond what every host keeps: it fails where it was told, and nowhere else.
         ensures place { IfOk result (λ id. id.0 ≡ length self.old.inputs) }
         ensures only_told { IsErrOf result HostFail.Failed → IsDue CallKind.OpenIn self.old ⊎ (bytes_of self.old.files name.now ≡ None) }
         ensures as_told { IsDue CallKind.OpenIn self.old ⊎ (bytes_of self.old.files name.now ≡ None) → IsErr result }
@@ -145,7 +146,7 @@ impl Host for MemHost {
         ensures later { NoneFalls (faults_in self.old.failed) (faults_in self.new.failed) }
         ensures cause { IsErrOf result HostFail.Failed → RoseAt (faults_in self.old.failed CallKind.Read) (faults_in self.new.failed CallKind.Read) ((inputs_at self.old.inputs).name id.0) }
 
-        // Beyond what every host keeps: it fails only as it was told, and as it was told.
+        // Beyond what every host keeps: it fails where it was told, and nowhere else.
         ensures amount { IfOk result (λ n. IsSomeAnd ((inputs_at self.old.inputs).held id.0) (λ bytes. n ≡ min (min self.old.chunk (length buf.new)) (length bytes))) }
         ensures only_told { IsErrOf result HostFail.Failed → IsDue CallKind.Read self.old }
         ensures as_told { IsDue CallKind.Read self.old → IsErr result }
@@ -168,7 +169,7 @@ impl Host for MemHost {
         ensures later { NoneFalls (faults_in self.old.failed) (faults_in self.new.failed) }
         ensures cause { IsErrOf result HostFail.Failed → Rose (faults_in self.old.failed CallKind.OpenOut name.now) (faults_in self.new.failed CallKind.OpenOut name.now) }
 
-        // Beyond what every host keeps: it fails only as it was told, and as it was told.
+        // Beyond what every host keeps: it fails where it was told, and nowhere else.
         ensures place { IfOk result (λ id. id.0 ≡ length self.old.outputs) }
         ensures only_told { IsErrOf result HostFail.Failed → IsDue CallKind.OpenOut self.old }
         ensures as_told { IsDue CallKind.OpenOut self.old → IsErr result }
@@ -193,7 +194,7 @@ impl Host for MemHost {
         ensures later { NoneFalls (faults_in self.old.failed) (faults_in self.new.failed) }
         ensures cause { IsErrOf result HostFail.Failed → RoseAt (faults_in self.old.failed CallKind.Write) (faults_in self.new.failed CallKind.Write) ((outputs_at self.old.outputs).name id.0) }
 
-        // Beyond what every host keeps: it fails only as it was told, and as it was told.
+        // Beyond what every host keeps: it fails where it was told, and nowhere else.
         ensures amount { IfOk result (λ n. n ≡ length bytes.now) }
         ensures only_told { IsErrOf result HostFail.Failed → IsDue CallKind.Write self.old }
         ensures as_told { IsDue CallKind.Write self.old → IsErr result }

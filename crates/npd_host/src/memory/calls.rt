@@ -44,7 +44,12 @@ pub fn note(alloc: Global, failed: &mut Vec<FailedCall>, kind: CallKind, name: &
     }
 }
 
-fn push(alloc: Global, failed: &mut Vec<FailedCall>, kind: CallKind, name: &str) -> Result<(), NoMemory>
+fn push(
+    alloc: Global,
+    failed: &mut Vec<FailedCall>,
+    kind: CallKind,
+    name: &str,
+) -> Result<(), NoMemory>
     ensures pushed { OnOk result (failed.new.items ≡ failed.old.items ++ record { kind = kind; name = name.now } ∷ []) }
     ensures left { OnErr result (failed.new.items ≡ failed.old.items) }
 {

@@ -16,7 +16,12 @@ pub fn find<'a>(files: &'a [NamedBytes], name: &str) -> Option<&'a [u8]>
 }
 
 /// Adds a file, in the place of an earlier one of that name.
-pub fn put(alloc: Global, files: &mut Vec<NamedBytes>, name: &str, bytes: &[u8]) -> Result<(), NoMemory>
+pub fn put(
+    alloc: Global,
+    files: &mut Vec<NamedBytes>,
+    name: &str,
+    bytes: &[u8],
+) -> Result<(), NoMemory>
     ensures put { OnOk result (Puts (bytes_of files.old.items) (bytes_of files.new.items) name.now bytes.now) }
     ensures left { OnErr result (files.new.items ≡ files.old.items) }
 {

@@ -9,7 +9,12 @@ use db_model::NoMemory;
 use std::alloc::Global;
 
 /// Opens an input that holds these bytes. Its id is its place in the list.
-pub fn push(alloc: Global, inputs: &mut Vec<Input>, name: &str, bytes: &[u8]) -> Result<InId, NoMemory>
+pub fn push(
+    alloc: Global,
+    inputs: &mut Vec<Input>,
+    name: &str,
+    bytes: &[u8],
+) -> Result<InId, NoMemory>
     ensures given { IfOk result (λ id. OpensInput (inputs_at inputs.old.items) (inputs_at inputs.new.items) id.0 name.now (Some bytes.now)) }
     ensures place { IfOk result (λ id. id.0 ≡ length inputs.old.items) }
     ensures left { OnErr result (inputs.new.items ≡ inputs.old.items) }
@@ -39,6 +44,7 @@ pub fn give(inputs: &mut [Input], id: InId, most: u32, buf: &mut [u8]) -> usize
     ensures gave { Gave id.0 (inputs_at inputs.old) (inputs_at inputs.new) (take result buf.new) }
     ensures end { result ≡ 0 → IsAtEnd ((inputs_at inputs.new).held id.0) }
 {
-    let input = &mut inputs[id.0 as usize];
+    let place = id.0 as usize;
+    let input = &mut inputs[place];
     input.give(most, buf)
 }

@@ -42,10 +42,8 @@ pub fn append(outputs: &mut [NamedBytes], id: OutId, bytes: &[u8]) -> Result<(),
 pub fn last<'a>(outputs: &'a [NamedBytes], name: &str) -> Option<&'a [u8]>
     ensures { MatchOption result (NoneNamed (outputs_at outputs.now) name.now) (λ bytes. LastNamed (outputs_at outputs.now) name.now bytes.now) }
 {
-    let mut end = outputs.len();
-    while end > 0 {
-        end -= 1;
-        let output = &outputs[end];
+    for place in (0..outputs.len()).rev() {
+        let output = &outputs[place];
         if output.name() == name {
             return Some(output.bytes());
         }

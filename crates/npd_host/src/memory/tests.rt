@@ -55,7 +55,11 @@ fn fails_as_it_was_told(rt: HostRuntime) -> Result<(), Fail> {
     host.fail(CallKind::Read, 0)?;
     host.fail(CallKind::OpenOut, 0)?;
     host.fail(CallKind::Write, 1)?;
-    assert_eq!(rt; host.open_in("db"), Err(HostFail::Failed), "a missing input");
+    assert_eq!(rt;
+        host.open_in("db"),
+        Err(HostFail::Failed),
+        "a missing input"
+    );
     assert_eq!(rt; host.open_in("cap"), Err(HostFail::Failed));
     let id = host.open_in("cap")?;
     assert_eq!(rt; host.read(id, &mut buf), Err(HostFail::Failed));
