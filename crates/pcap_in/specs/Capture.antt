@@ -72,7 +72,8 @@ unfoldable pub goes : ℕ → Form → ℕ → List ℕ → Seen
 goes zero form number r = record { packets = []; end = Whole }
 goes (suc n) form number r = step_then (record_at form number r) (λ packet rest. goes n form (number + 1) rest)
 
--- the records that these bytes are, from this number on: there are no more of them than bytes
+-- the records that these bytes are, from this number on, since there are no more of them than bytes: by the law
+-- `records_step` they are what stands at the front, and then the records behind it
 unfoldable pub records : Form → ℕ → List ℕ → Seen
 records form number r = goes (suc (length r)) form number r
 
