@@ -7,6 +7,6 @@ mod files;
 mod host;
 mod memory;
 
-pub use host::{CallKind, Host, HostFail, InId, OutId};
 pub use files::FileHost;
+pub use host::{CallKind, Host, HostFail, InId, OutId};
 pub use memory::MemHost;
