@@ -1,6 +1,6 @@
 -- What adding or raising the counts of a name does to the counts of each name.
 use Rattle.std.proofs.Common.{◌≡◌, ℕ, ◌<◌, ◌≤◌, length, subst, Bool, true, false, List, [], ◌∷◌, ◌++◌, set, get_or, Option, Some, None, refl, sym, ap, ◌∙◌, ◌⊎◌, inl, inr, arith}
-use Rattle.std.specs.Option.{IsSome, is_some}
+use Rattle.std.specs.Option.{is_some}
 use Rattle.std.specs.List.{find, position}
 use Rattle.std.proofs.lemmas.Slice.Eq.{bytes_eq-Decides}
 use Rattle.std.proofs.lemmas.List.Folds.{find_past}
@@ -8,11 +8,11 @@ use Rattle.std.proofs.lemmas.List.Quantifiers.{position-Some}
 use Rattle.std.proofs.lemmas.Bool.{false≢true}
 use Rattle.npd_host.specs.Host.{Rose, NoneFalls}
 use Rattle.npd_host.specs.Counts.{count_at}
-use Rattle.npd_host.specs.FileHost.{is_of, count_of, faults_of, HasCounts}
+use Rattle.npd_host.specs.FileHost.{is_of, faults_of, HasCounts}
 use Rattle.npd_host.specs.declared.host.CallKind.{CallKind}
 use Rattle.npd_host.specs.declared.counts.Counts.{Counts}
 use Rattle.npd_host.specs.declared.files.faults.NameFaults.{NameFaults}
-use Rattle.npd_host.proofs.Finds.{false_unless_true, find-none, find-first, find-push, find-push_past, find-set_first}
+use Rattle.npd_host.proofs.Finds.{find-none, find-first, find-push, find-push_past, find-set_first}
 
 -- the name that an entry is of
 of_name : (x : NameFaults) (name : List ℕ) → is_of name x ≡ true → x.name ≡ name
@@ -50,15 +50,15 @@ module _ (xs : List NameFaults) (i : ℕ) (x : NameFaults) (name : List ℕ) (co
 
   pub later-set : ((kind : CallKind) → count_at kind x.counts ≤ count_at kind counts) → NoneFalls (faults_of xs) (faults_of (set xs i y))
   later-set grew kind other = elim (found other) [
-        inl same ↦ rw same (omega arith)
-      | inr both ↦ rw (both.0, both.1) (grew kind)
-      ]
+    | inl same ↦ rw same (omega arith)
+    | inr both ↦ rw (both.0, both.1) (grew kind)
+  ]
 
   pub kept-set : (other : List ℕ) → HasCounts xs other → HasCounts (set xs i y) other
   kept-set other has = elim (found other) [
-        inl same ↦ rw same has
-      | inr both ↦ rw both.1 refl
-      ]
+    | inl same ↦ rw same has
+    | inr both ↦ rw both.1 refl
+  ]
 
 first_some : {A : Type 0} (o : Option A) → is_some o ≡ true → (x : A) × (Some x ≡ o)
 first_some None e = absurd (false≢true e)

@@ -16,9 +16,9 @@ is_named-other x name other = false_unless_true (is_named name x) (λ e. other (
 
 pub Puts-push : (xs : List Named) (y : Named) → None ≡ position (is_named y.name) xs → Puts (bytes_of xs) (bytes_of (xs ++ y ∷ [])) y.name y.bytes
 Puts-push xs y none = record {
-    put = rw (find-push (is_named y.name) xs y none (is_named-same y));
-    others = λ other h. rw (find-push_past (is_named other) xs y (is_named-other y other h));
-  }
+  put = rw (find-push (is_named y.name) xs y none (is_named-same y));
+  others = λ other h. rw (find-push_past (is_named other) xs y (is_named-other y other h));
+}
 
 pub Puts-set : (xs : List Named) (i : ℕ) (y : Named) → Some i ≡ position (is_named y.name) xs → Puts (bytes_of xs) (bytes_of (set xs i y)) y.name y.bytes
 Puts-set xs i y some =

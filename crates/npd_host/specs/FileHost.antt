@@ -1,5 +1,5 @@
 -- What a `FileHost` is seen as: names and counts, and nothing of content.
-use Rattle.std.specs.Prelude.{◌≡◌, ℕ, Bool, List, Option, Some, None, IsSome, slice_get}
+use Rattle.std.specs.Prelude.{ℕ, Bool, List, Option, Some, None, IsSome, slice_get}
 use Rattle.std.specs.List.{All, find}
 use Rattle.std.specs.Str.{bytes_eq}
 use Rattle.npd_host.specs.Host.{Inputs, Outputs}

@@ -127,3 +127,6 @@ impl<R: Files + Input + Print> Host for FileHost<'_, R> {
         }
     }
 }
+
+#[cfg(test)]
+mod tests;

@@ -8,7 +8,7 @@ mod host;
 mod memory;
 mod transfer;
 
-pub use host::{CallKind, Host, HostFail, InId, OutId};
 pub use files::FileHost;
+pub use host::{CallKind, Host, HostFail, InId, OutId};
 pub use memory::MemHost;
 pub use transfer::{fill, write_all};

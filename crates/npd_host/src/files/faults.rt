@@ -76,7 +76,5 @@ impl Faults {
 fn place_of(faults: &[NameFaults], name: &str) -> Option<usize>
     ensures { result ≡ position (is_of name.now) faults.now }
 {
-    faults
-        .iter()
-        .position(|entry| entry.name.as_str() == name)
+    faults.iter().position(|entry| entry.name.as_str() == name)
 }

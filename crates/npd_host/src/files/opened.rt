@@ -54,7 +54,11 @@ pub fn name<S>(opened: &[Opened<S>], place: u64) -> &str
 }
 
 /// Reads from an input into the front of `buf`, and says how many bytes. None: the read failed.
-pub fn read<S: Read, F: Read>(inputs: &mut [Opened<Source<S, F>>], place: u64, buf: &mut [u8]) -> Option<usize>
+pub fn read<S: Read, F: Read>(
+    inputs: &mut [Opened<Source<S, F>>],
+    place: u64,
+    buf: &mut [u8],
+) -> Option<usize>
     requires { place < length inputs.old }
     ensures bound { IfSome result (λ n. n ≤ length buf.new) }
     ensures same { inputs.new ≡ inputs.old }
@@ -64,7 +68,12 @@ pub fn read<S: Read, F: Read>(inputs: &mut [Opened<Source<S, F>>], place: u64, b
 }
 
 /// Writes some of `bytes` to an output, and says how many. None: the write failed, or took nothing.
-pub fn write<R: Print, F: Write>(outputs: &mut [Opened<Sink<F>>], rt: &R, place: u64, bytes: &[u8]) -> Option<usize>
+pub fn write<R: Print, F: Write>(
+    outputs: &mut [Opened<Sink<F>>],
+    rt: &R,
+    place: u64,
+    bytes: &[u8],
+) -> Option<usize>
     requires { place < length outputs.old }
     ensures bound { IfSome result (λ n. (0 < n) × (n ≤ length bytes.now)) }
     ensures same { outputs.new ≡ outputs.old }

@@ -24,8 +24,8 @@ impl<S: Read, F: Read> Source<S, F> {
         ensures { IfSome result (λ n. n ≤ length buf.new) }
     {
         match self {
-            Source::Standard(input) => read(input, buf),
-            Source::File(file) => read(file, buf),
+            Source::Standard(input) => read_some(input, buf),
+            Source::File(file) => read_some(file, buf),
         }
     }
 }
@@ -43,8 +43,8 @@ impl<F: Write> Sink<F> {
         ensures { IfSome result (λ n. (0 < n) × (n ≤ length bytes.now)) }
     {
         match self {
-            Sink::Standard => write(&mut io::writer(rt), bytes),
-            Sink::File(file) => write(file, bytes),
+            Sink::Standard => write_some(&mut io::writer(rt), bytes),
+            Sink::File(file) => write_some(file, bytes),
         }
     }
 }
@@ -85,7 +85,8 @@ pub fn create<R: Files>(rt: &R, name: &str) -> Option<Sink<R::File>> {
     None
 }
 
-fn read<S: Read>(from: &mut S, buf: &mut [u8]) -> Option<usize>
+/// Reads into the front of `buf`, and says how many bytes. None: the read failed.
+pub fn read_some<S: Read>(from: &mut S, buf: &mut [u8]) -> Option<usize>
     ensures { IfSome result (λ n. n ≤ length buf.new) }
 {
     for _ in 0..MOST_CALLS {
@@ -101,7 +102,8 @@ fn read<S: Read>(from: &mut S, buf: &mut [u8]) -> Option<usize>
     None
 }
 
-fn write<S: Write>(to: &mut S, bytes: &[u8]) -> Option<usize>
+/// Writes some of `bytes`, and says how many. None: the write failed, or took nothing.
+pub fn write_some<S: Write>(to: &mut S, bytes: &[u8]) -> Option<usize>
     ensures { IfSome result (λ n. (0 < n) × (n ≤ length bytes.now)) }
 {
     for _ in 0..MOST_CALLS {

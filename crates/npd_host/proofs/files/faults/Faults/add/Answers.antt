@@ -1,8 +1,6 @@
-use Rattle.std.proofs.Common.{◌≡◌, true, false, sym, ap, ◌∙◌, refl}
-use Rattle.std.specs.List.{position}
+use Rattle.std.proofs.Common.{◌≡◌, sym, ap, ◌∙◌, refl}
 use Rattle.std.specs.Option.{is_some}
 use Rattle.npd_host.specs.Counts.{count_at}
-use Rattle.npd_host.specs.FileHost.{is_of}
 use Rattle.npd_host.specs.declared.host.CallKind.{CallKind}
 use Rattle.npd_host.specs.declared.host.CallKind.TheVariants.{OpenIn, Read, OpenOut, Write}
 use Rattle.npd_host.proofs.NameCounts.{has_counts, added-push, kept-push, same-push}
