@@ -25,6 +25,7 @@ const MOST_PROTOCOLS: usize = 1_024;
 pub enum ReadFail {
     /// It is not spelled as a simple database.
     NotSimple,
+    /// Memory was refused.
     NoMemory,
 }
 
@@ -319,3 +320,6 @@ pub fn read_database(alloc: Global, text: &[u8]) -> Result<SimpleDb, ReadFail>
 pub fn spells_one_database()
     ensures { SpellsOneDatabase }
 {}
+
+#[cfg(test)]
+mod tests;
