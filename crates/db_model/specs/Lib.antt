@@ -1,0 +1,16 @@
+pub mod Folds
+pub mod Table
+pub mod Session
+pub mod Questions
+pub mod Replay
+pub mod Names
+pub mod Numbers
+pub mod Special
+pub mod Extent
+pub mod Expression
+pub mod Numbering
+pub mod Runs
+pub mod Elements
+pub mod Chain
+pub mod Decoding
+pub mod Serial

@@ -1,3 +1,6 @@
+ghost use Rattle.std.specs.Prelude.{◌≡◌};
+ghost use Rattle.db_model.specs.Special.{special};
+
 use crate::{Bytes, Name};
 use sqlite_items::{Boxed, Items};
 
@@ -17,6 +20,42 @@ pub enum Operator {
     Ge,
     Eq,
     Ne,
+}
+
+/// The variables that are not declared and that nothing sets.
+#[derive(Clone, Copy, Debug, PartialEq, Eq)]
+pub enum Special {
+    /// `$packet`, the captured bytes.
+    Packet,
+    /// `$packetlength`, how many they are.
+    PacketLength,
+    /// `$currentoffset`, the position.
+    CurrentOffset,
+    /// `$protooffset`, the position at which the protocol began.
+    ProtoOffset,
+    /// `$linktype`
+    LinkType,
+}
+
+impl Special {
+    /// Which special variable the name, without its `$`, is.
+    pub fn of(name: &[u8]) -> Option<Special>
+        ensures { result ≡ special name.now }
+    {
+        if name == b"packet".as_slice() {
+            Some(Special::Packet)
+        } else if name == b"packetlength".as_slice() {
+            Some(Special::PacketLength)
+        } else if name == b"currentoffset".as_slice() {
+            Some(Special::CurrentOffset)
+        } else if name == b"protooffset".as_slice() {
+            Some(Special::ProtoOffset)
+        } else if name == b"linktype".as_slice() {
+            Some(Special::LinkType)
+        } else {
+            None
+        }
+    }
 }
 
 /// An expression as it is written, parentheses aside.
