@@ -14,3 +14,4 @@ pub mod Elements
 pub mod Chain
 pub mod Decoding
 pub mod Serial
+pub mod Over

@@ -15,6 +15,7 @@ mod no_memory;
 mod packet;
 mod question;
 mod sequence;
+mod table;
 mod tree;
 mod value;
 
@@ -42,8 +43,9 @@ pub use limits::{
 pub use names::{MOST_NAME, Name, Word};
 pub use no_memory::NoMemory;
 pub use packet::{Packet, Stamp};
-pub use question::{Answer, Question};
+pub use question::{Answer, Answers, Question};
 pub use sequence::Sequence;
+pub use table::Table;
 pub use tree::{Node, Nodes, PacketTree, Proto, Reason};
 pub use value::{Keys, Row, Ty, Value};
 
