@@ -1,0 +1,4 @@
+pub mod Play
+pub mod Over
+pub mod Replay
+pub mod Serial
