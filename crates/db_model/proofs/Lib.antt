@@ -2,3 +2,4 @@ pub mod Play
 pub mod Over
 pub mod Replay
 pub mod Serial
+pub mod Kept

@@ -15,3 +15,4 @@ pub mod Chain
 pub mod Decoding
 pub mod Serial
 pub mod Over
+pub mod Kept
