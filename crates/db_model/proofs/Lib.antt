@@ -3,3 +3,4 @@ pub mod Over
 pub mod Replay
 pub mod Serial
 pub mod Kept
+pub mod LawsHold

@@ -16,3 +16,4 @@ pub mod Decoding
 pub mod Serial
 pub mod Over
 pub mod Kept
+pub mod Laws

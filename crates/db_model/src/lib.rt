@@ -9,6 +9,7 @@ mod entry;
 mod env;
 mod expression;
 mod field_kind;
+pub mod laws;
 mod limits;
 mod names;
 mod no_memory;
