@@ -17,3 +17,6 @@ pub mod Serial
 pub mod Over
 pub mod Kept
 pub mod Laws
+pub mod Typing
+pub mod Forms
+pub mod Shape

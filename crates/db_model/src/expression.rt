@@ -115,3 +115,14 @@ pub enum Literal {
     Text(Bytes),
     Protocol(Name),
 }
+
+/// Why an expression has no type: the first of these that holds.
+#[derive(Clone, Copy, Debug, PartialEq, Eq)]
+pub enum TypeFault {
+    /// It names something that isn't declared.
+    Undeclared,
+    /// The types of its parts don't fit.
+    Mistyped,
+    /// It has a look-up with a wrong number of keys.
+    Arity,
+}

@@ -31,7 +31,7 @@ pub use element::{
 };
 pub use entry::{Entry, NewEntry, Validity};
 pub use env::{Env, FieldValues, Frame, HitRows, Way};
-pub use expression::{Expr, Literal, Operator, Special};
+pub use expression::{Expr, Literal, Operator, Special, TypeFault};
 pub use field_kind::{CaseRange, FieldKind};
 pub use limits::{
     GREATEST_NUMBER, LEAST_ALIGNMENT, MOST_ALIGNMENT, MOST_BIT_SIZE, MOST_COLUMN_SIZE,
