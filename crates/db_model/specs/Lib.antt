@@ -20,3 +20,9 @@ pub mod Laws
 pub mod Typing
 pub mod Forms
 pub mod Shape
+pub mod Lines
+pub mod NameFaults
+pub mod TypeFaults
+pub mod NumberFaults
+pub mod BlockFaults
+pub mod Objection

@@ -116,7 +116,7 @@ pub enum Literal {
     Protocol(Name),
 }
 
-/// Why an expression has no type: the first of these that holds.
+/// Why an expression has no type. A name that isn't declared comes first, then a wrong number of keys.
 #[derive(Clone, Copy, Debug, PartialEq, Eq)]
 pub enum TypeFault {
     /// It names something that isn't declared.
