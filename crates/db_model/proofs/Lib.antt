@@ -4,3 +4,4 @@ pub mod Replay
 pub mod Serial
 pub mod Kept
 pub mod LawsHold
+pub mod BareDb

@@ -26,3 +26,4 @@ pub mod TypeFaults
 pub mod NumberFaults
 pub mod BlockFaults
 pub mod Objection
+pub mod Bare

@@ -3,6 +3,7 @@
 #![tactic(auto)]
 
 mod bytes;
+mod checked;
 mod database;
 mod element;
 mod entry;
@@ -21,6 +22,7 @@ mod tree;
 mod value;
 
 pub use bytes::{Bytes, Bytes64, MOST_BYTES};
+pub use checked::CheckedDb;
 pub use database::{
     ColumnDecl, Database, ElementList, ExecuteCode, Format, HeaderPart, KeyDecl, NamedBlock,
     Protocol, SectionDecl, ShowTemplate, ShowType, SumItem, SumStruct, SumTemplate, TableDecl,
