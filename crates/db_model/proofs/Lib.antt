@@ -5,3 +5,5 @@ pub mod Serial
 pub mod Kept
 pub mod LawsHold
 pub mod BareDb
+pub mod Accepted
+pub mod Includes

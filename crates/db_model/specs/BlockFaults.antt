@@ -7,10 +7,11 @@ use Rattle.db_model.specs.declared.database.Protocol.{Protocol}
 use Rattle.db_model.specs.declared.element.Element.{Element}
 use Rattle.db_model.specs.declared.element.Element.TheOpen as layer
 use Rattle.db_model.specs.declared.limits.TheConstants.{MOST_NESTED}
+use Rattle.db_model.specs.Chain.{elements_of}
 use Rattle.db_model.specs.Folds.{CaseOf, BranchOf, ElementOf, fold_element}
 use Rattle.db_model.specs.Lines.{Lines, over, at_line}
 use Rattle.db_model.specs.Names.{Text}
-use Rattle.db_model.specs.Numbering.{BlockAt, block_at, fields_in, blocks_in, all_names, case_names, branch_names}
+use Rattle.db_model.specs.Numbering.{BlockAt, block_at, blocks_in, all_names, case_names, branch_names}
 
 -- ---- the blocks that are included
 
@@ -106,10 +107,10 @@ abbrev pub block_within : Protocol → ℕ → Text → Within
 block_within p zero name n = false
 block_within p (suc f) name n = block_by (block_within p f) (block_at p name) n
 
--- from the field list, and from each named block, which counts itself
+-- from the protocol's own lists, and from each named block, which counts itself
 abbrev pub protocol_within : Protocol → Bool
 protocol_within p =
-    within_in (block_within p MOST_NESTED) (fields_in p.format) MOST_NESTED
+    within_in (block_within p MOST_NESTED) (elements_of p) MOST_NESTED
     && list_all (λ (b : NamedBlock). one_within (within_in (block_within p MOST_NESTED) b.body) MOST_NESTED) (blocks_in p.format)
 
 abbrev pub is_nothing : Lines → Bool

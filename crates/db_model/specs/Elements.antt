@@ -156,6 +156,10 @@ abbrev pub included : Database → Protocol → ℕ → Text → Run
 included db p zero name z = next z
 included db p (suc n) name z = block_of db p (included db p n) (block_at p name) z
 
+-- a list of elements of a protocol, in which so many levels of blocks may be included
+abbrev pub list_within : Database → Protocol → ℕ → List Element → Counts → Run
+list_within db p n xs at = each (parts db (field_names p) (included db p n) xs) at
+
 -- a list of elements of a protocol
 unfoldable pub list : Database → Protocol → List Element → Counts → Run
-list db p xs at = each (parts db (field_names p) (included db p MOST_NESTED) xs) at
+list db p xs at = list_within db p MOST_NESTED xs at

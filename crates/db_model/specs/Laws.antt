@@ -1,13 +1,18 @@
 -- The laws of the definitions, each in the words of its subject.
-use Rattle.std.specs.Prelude.{◌≡◌, ℕ, ◌+◌, ◌≤◌, List, [], ◌∷◌, ◌++◌, length, drop, ◌↔◌, Option, Some, None}
+use Rattle.std.specs.Prelude.{◌≡◌, ℕ, suc, ◌+◌, ◌≤◌, List, [], ◌∷◌, ◌++◌, length, drop, slice_get, ◌↔◌, Option, Some, None}
 use Rattle.db_model.specs.declared.database.Database.{Database}
+use Rattle.db_model.specs.declared.database.Protocol.{Protocol}
 use Rattle.db_model.specs.declared.database.TableDecl.{TableDecl}
 use Rattle.db_model.specs.declared.entry.Entry.{Entry}
+use Rattle.db_model.specs.declared.limits.TheConstants.{MOST_NESTED}
 use Rattle.db_model.specs.declared.packet.Packet.{Packet}
 use Rattle.db_model.specs.declared.question.Answer.{Answer}
 use Rattle.db_model.specs.declared.question.Question.{Question}
+use Rattle.db_model.specs.Chain.{elements_of}
 use Rattle.db_model.specs.Decoding.{dec}
+use Rattle.db_model.specs.Elements.{list_within}
 use Rattle.db_model.specs.Kept.{Kept, made_by_put}
+use Rattle.db_model.specs.Objection.{IsChecked}
 use Rattle.db_model.specs.Questions.{Asks, Gives, Asking, Log, Played, Step, pure, ◌then◌, State, from}
 use Rattle.db_model.specs.Replay.{after, Agrees, differs}
 use Rattle.db_model.specs.Serial.{state, decoded_at}
@@ -41,6 +46,10 @@ SerialFrom = (db : Database) (s : Session) (ps : List Packet) (m k : ℕ) → (s
 -- more packets behind the first ones don't change these
 abbrev pub SerialFront : Type 0
 SerialFront = (db : Database) (s : Session) (ps qs : List Packet) (k : ℕ) → k ≤ length ps → state db s (ps ++ qs) k ≡ state db s ps k
+
+-- the levels of included blocks are enough: in a checked database one more changes nothing
+abbrev pub IncludesEnd : Type 0
+IncludesEnd = (db : Database) (q : ℕ) (p : Protocol) → IsChecked db → slice_get db.protocols q ≡ Some p → list_within db p MOST_NESTED (elements_of p) ≡ list_within db p (suc MOST_NESTED) (elements_of p)
 
 -- in a table to which entries were only put, no two of a part have the same keys and masks, and the declared lengths hold
 abbrev pub PutKeeps : Type 0

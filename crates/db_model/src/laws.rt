@@ -1,6 +1,6 @@
 //! The laws of the definitions, each the contract of a function that does nothing.
 
-ghost use Rattle.db_model.specs.Laws.{UnchangedDecoding, UnchangedComputation, DiffersNowhere, AgreesInParts, SessionOfDecoding, SerialFrom, SerialFront, PutKeeps, CarriesState};
+ghost use Rattle.db_model.specs.Laws.{UnchangedDecoding, UnchangedComputation, DiffersNowhere, AgreesInParts, SessionOfDecoding, SerialFrom, SerialFront, IncludesEnd, PutKeeps, CarriesState};
 
 /// Where the log of a decoding agrees with another session, decoding from there gives the same tree and log.
 pub fn unchanged_decoding()
@@ -41,6 +41,12 @@ pub fn serial_from()
 /// More packets behind the first ones don't change the states of these.
 pub fn serial_front()
     ensures { SerialFront }
+{
+}
+
+/// In a checked database one more level of included blocks changes nothing.
+pub fn includes_end()
+    ensures { IncludesEnd }
 {
 }
 
