@@ -27,3 +27,8 @@ pub mod NumberFaults
 pub mod BlockFaults
 pub mod Objection
 pub mod Bare
+pub mod Samples
+pub mod TableSample
+pub mod SessionSample
+pub mod SessionPackets
+pub mod Examples
