@@ -8,6 +8,7 @@ mod database;
 mod element;
 mod entry;
 mod env;
+pub mod examples;
 mod expression;
 mod field_kind;
 pub mod laws;
