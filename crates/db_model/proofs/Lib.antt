@@ -9,3 +9,4 @@ pub mod Accepted
 pub mod Includes
 pub mod Worked
 pub mod Judged
+pub mod Rules

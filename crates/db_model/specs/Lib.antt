@@ -32,3 +32,5 @@ pub mod TableSample
 pub mod SessionSample
 pub mod SessionPackets
 pub mod Examples
+pub mod RuleSamples
+pub mod RuleExamples
