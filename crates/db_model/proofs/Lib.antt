@@ -10,3 +10,4 @@ pub mod Includes
 pub mod Worked
 pub mod Judged
 pub mod Rules
+pub mod Layers

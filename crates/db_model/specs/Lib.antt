@@ -34,3 +34,4 @@ pub mod SessionPackets
 pub mod Examples
 pub mod RuleSamples
 pub mod RuleExamples
+pub mod Fitting

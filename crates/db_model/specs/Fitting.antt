@@ -1,0 +1,81 @@
+-- When a question, and what a session holds, fit a database: keys and masks have the declared number and sizes, a row has the declared types and at most the declared sizes, and each protocol in it is a declared one.
+use Rattle.std.specs.Prelude.{ℕ, Bool, true, false, ◌&&◌, nat_lt, nat_le, ◌==◌, List, [], ◌∷◌, length, slice_get, Option, Some, None}
+use Rattle.std.specs.List.{list_all}
+use Rattle.db_model.specs.declared.database.ColumnDecl.{ColumnDecl}
+use Rattle.db_model.specs.declared.database.Database.{Database}
+use Rattle.db_model.specs.declared.database.TableDecl.{TableDecl}
+use Rattle.db_model.specs.declared.entry.Entry.{Entry}
+use Rattle.db_model.specs.declared.entry.NewEntry.{NewEntry}
+use Rattle.db_model.specs.declared.question.Answer.{Answer}
+use Rattle.db_model.specs.declared.question.Answer.TheVariants.{Miss, Hit, Done}
+use Rattle.db_model.specs.declared.question.Question.{Question}
+use Rattle.db_model.specs.declared.question.Question.TheVariants.{Look, Add}
+use Rattle.db_model.specs.declared.value.Value.{Value}
+use Rattle.db_model.specs.declared.value.Value.TheVariants as value
+use Rattle.db_model.specs.declared.value.Ty.{Ty}
+use Rattle.db_model.specs.declared.value.Ty.TheVariants as ty
+use Rattle.db_model.specs.Elements.{fits_column}
+use Rattle.db_model.specs.Expression.{key_sizes, columns_of}
+use Rattle.db_model.specs.Session.{Session}
+use Rattle.db_model.specs.Table.{Parts, KeyList}
+
+-- one list of bytes of each size
+abbrev pub keys_fit : List ℕ → KeyList → Bool
+keys_fit [] [] = true
+keys_fit [] (k ∷ ks) = false
+keys_fit (s ∷ ss) [] = false
+keys_fit (s ∷ ss) (k ∷ ks) = length k == s && keys_fit ss ks
+
+abbrev pub masks_fit : List ℕ → Option KeyList → Bool
+masks_fit sizes None = true
+masks_fit sizes (Some masks) = keys_fit sizes masks
+
+-- a value has the type, and a protocol is declared
+abbrev pub has_type : Database → Ty → Value → Bool
+has_type db ty.Num (value.Num n) = true
+has_type db ty.Num (value.Buf b) = false
+has_type db ty.Num (value.Proto p) = false
+has_type db ty.Buf (value.Num n) = false
+has_type db ty.Buf (value.Buf b) = true
+has_type db ty.Buf (value.Proto p) = false
+has_type db ty.Proto (value.Num n) = false
+has_type db ty.Proto (value.Buf b) = false
+has_type db ty.Proto (value.Proto p) = nat_lt p (length db.protocols)
+
+abbrev pub value_fits : Database → ColumnDecl → Value → Bool
+value_fits db c v = has_type db c.ty v && fits_column c.size v
+
+abbrev pub row_fits : Database → List ColumnDecl → List Value → Bool
+row_fits db [] [] = true
+row_fits db [] (v ∷ vs) = false
+row_fits db (c ∷ cs) [] = false
+row_fits db (c ∷ cs) (v ∷ vs) = value_fits db c v && row_fits db cs vs
+
+abbrev pub look_fits : Option TableDecl → KeyList → Bool
+look_fits None keys = false
+look_fits (Some d) keys = keys_fit (key_sizes (Some d)) keys
+
+abbrev pub entry_fits : Database → TableDecl → KeyList → Option KeyList → List Value → Bool
+entry_fits db d keys masks row = keys_fit (key_sizes (Some d)) keys && (masks_fit (key_sizes (Some d)) masks && row_fits db d.columns row)
+
+abbrev pub add_fits : Database → Option TableDecl → NewEntry → Bool
+add_fits db None n = false
+add_fits db (Some d) n = entry_fits db d n.keys n.masks n.row
+
+-- its table is declared, and what it holds fits that
+unfoldable pub question_fits : Database → Question → Bool
+question_fits db (Look n keys renew) = look_fits (slice_get db.tables n) keys
+question_fits db (Add n e) = add_fits db (slice_get db.tables n) e
+
+abbrev pub part_fits : Database → TableDecl → List Entry → Bool
+part_fits db d es = list_all (λ (e : Entry). entry_fits db d e.keys e.masks e.row) es
+
+abbrev pub tables_fit : Database → List TableDecl → Session → Bool
+tables_fit db [] [] = true
+tables_fit db [] (t ∷ ts) = false
+tables_fit db (d ∷ ds) [] = false
+tables_fit db (d ∷ ds) (t ∷ ts) = (part_fits db d t.exact && part_fits db d t.masked) && tables_fit db ds ts
+
+-- a session has one table for each declaration, and each entry fits it
+unfoldable pub session_fits : Database → Session → Bool
+session_fits db s = tables_fit db db.tables s
