@@ -8,7 +8,11 @@ use Rattle.std.specs.Cmp.Lexicographic.{pointwise, pointwise_decides, bytes_deci
 use Rattle.std.proofs.lemmas.Bool.Decides.{Decides-and, same_from_decides, Decides-eqb, Decides-ltb}
 use Rattle.db_model.specs.declared.database.TableDecl.{TableDecl}
 use Rattle.db_model.specs.declared.entry.Entry.{Entry}
-use Rattle.db_model.specs.Table.{Parts, KeyList, empty, same_keys, same_place, replace, sooner, soonest, evict, put_in_full, put_in, put_by, put}
+use Rattle.db_model.specs.Laws.{TableKeeps}
+use Rattle.db_model.specs.Table.{Parts, KeyList, empty, same_keys, same_place, replace, sooner, soonest, evict, put_in_full, put_in, put_by, put, entry_at, add, renewed_by, answered, found, look}
+use Rattle.db_model.specs.declared.entry.NewEntry.{NewEntry}
+use Rattle.db_model.specs.declared.entry.Validity.{Validity}
+use Rattle.db_model.specs.declared.entry.Validity.TheVariants.{Forever, MaxTime, UpdateOnHit, AddOnHit}
 use Rattle.db_model.specs.Kept.{IsApart, Kept, made_by_put}
 
 -- ---- the test
@@ -230,3 +234,70 @@ put_keeps d es =
       exact_room = h.exact.within;
       masked_room = h.masked.within;
     }
+
+-- ---- adding and looking
+
+-- a test that holds somewhere holds at a place
+any_at : (x : Entry) (es : List Entry) → list_any (same_place x) es ≡ true → (j : ℕ) × (e : Entry) × (slice_get es j ≡ Some e) × (same_place x e ≡ true)
+any_at x [] h = (cc)
+any_at x (d ∷ es) h = by (same_place x d) refl h (any_at x es)
+  where
+    by : (b : Bool) → same_place x d ≡ b → (b || list_any (same_place x) es) ≡ true → (list_any (same_place x) es ≡ true → (j : ℕ) × (e : Entry) × (slice_get es j ≡ Some e) × (same_place x e ≡ true)) → (j : ℕ) × (e : Entry) × (slice_get (d ∷ es) j ≡ Some e) × (same_place x e ≡ true)
+    by true k g ih = (zero, d, refl, k)
+    by false k g ih = let r = ih g in (suc r.0, r.1, r.2, r.3)
+
+not_there : (b : Bool) → (b ≡ true → ⊥) → b ≡ false
+not_there true h = absurd (h refl)
+not_there false h = refl
+
+places_apart : (es : List Entry) → IsApart es → Apart es
+places_apart [] h = tt
+places_apart (x ∷ es) h =
+    (not_there (list_any (same_place x) es) (λ g.
+        let r = any_at x es g in
+        let m = (place_decides x r.1).0 r.3 in
+        let e : zero ≡ suc r.0 = h zero (suc r.0) x r.1 refl r.2 m.0 m.1 in
+        (cc)),
+     places_apart es (λ i j d e p q k m. suc_same i j (h (suc i) (suc j) d e p q k m)))
+  where
+    suc_same : (i j : ℕ) → suc i ≡ suc j → i ≡ j
+    suc_same i j e = omega arith
+
+both_of : (d : TableDecl) (t : Parts) → Kept d t → Both d t
+both_of d t h = record {
+  exact = record { apart = places_apart t.exact h.exact_apart; within = h.exact_room };
+  masked = record { apart = places_apart t.masked h.masked_apart; within = h.masked_room };
+}
+
+kept_of : (d : TableDecl) (t : Parts) → Both d t → Kept d t
+kept_of d t h = record {
+  exact_apart = apart_places t.exact h.exact.apart;
+  masked_apart = apart_places t.masked h.masked.apart;
+  exact_room = h.exact.within;
+  masked_room = h.masked.within;
+}
+
+pub put_kept : (d : TableDecl) (t : Parts) (e : Entry) → Kept d t → Kept d (put d t e)
+put_kept d t e h = kept_of d (put d t e) (put_both d t e (both_of d t h))
+
+pub add_kept : (d : TableDecl) (t : Parts) (n : NewEntry) (now : ℕ) → Kept d t → Kept d (add d t n now)
+unfolding add
+add_kept d t n now h = put_kept d t (entry_at n now) h
+
+renewed_kept : (v : Validity) (d : TableDecl) (t : Parts) (keys : KeyList) (now : ℕ) (e : Entry) → Kept d t → Kept d (renewed_by v d t keys now e)
+renewed_kept Forever d t keys now e h = h
+renewed_kept MaxTime d t keys now e h = h
+renewed_kept UpdateOnHit d t keys now e h = put_kept d t _ h
+renewed_kept AddOnHit d t keys now e h = put_kept d t _ h
+
+pub look_kept : (d : TableDecl) (t : Parts) (keys : KeyList) (renew : Bool) (now : ℕ) → Kept d t → Kept d (look d t keys renew now).1
+unfolding look
+look_kept d t keys renew now h = by (found t keys now) renew
+  where
+    by : (o : Option Entry) (r : Bool) → Kept d (answered d t keys r now o).1
+    by None r = h
+    by (Some e) true = renewed_kept e.validity d t keys now e h
+    by (Some e) false = h
+
+pub table_keeps : TableKeeps
+table_keeps = record { added = add_kept; looked = look_kept }

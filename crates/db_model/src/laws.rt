@@ -1,6 +1,6 @@
 //! The laws of the definitions, each the contract of a function that does nothing.
 
-ghost use Rattle.db_model.specs.Laws.{UnchangedDecoding, UnchangedComputation, DiffersNowhere, AgreesInParts, SessionOfDecoding, SerialFrom, SerialFront, IncludesEnd, PutKeeps, CarriesState};
+ghost use Rattle.db_model.specs.Laws.{UnchangedDecoding, UnchangedComputation, DiffersNowhere, AgreesInParts, SessionOfDecoding, SerialFrom, SerialFront, IncludesEnd, PutKeeps, TableKeeps, CarriesState};
 
 /// Where the log of a decoding agrees with another session, decoding from there gives the same tree and log.
 pub fn unchanged_decoding()
@@ -53,6 +53,12 @@ pub fn includes_end()
 /// Putting entries keeps their keys and masks apart, and the declared lengths.
 pub fn put_keeps()
     ensures { PutKeeps }
+{
+}
+
+/// An addition and a look-up keep that.
+pub fn table_keeps()
+    ensures { TableKeeps }
 {
 }
 
