@@ -138,6 +138,7 @@ module _ (db : Database) (fields : List Text) (I J : Text → Run) where
 
   mutual
     unfolding means
+
     pub same_means : (x : Element) → Each Same (includes_of x) → means db fields I x ≡ means db fields J x
     same_means (element.Field line name form longname show) h = refl
     same_means (element.Block' line name longname s body) h = let e = same_row body h in λ i at. block at.blocks (each (e i) (plus at a_block))
@@ -231,4 +232,4 @@ nested_within db q p e g =
 pub includes_fit : (db : Database) (q : ℕ) (p : Protocol) → objection db ≡ None → slice_get db.protocols q ≡ Some p → Each (Fits p MOST_NESTED) (includes_in (elements_of p))
 includes_fit db q p e g =
     each_map (Found (block_within p MOST_NESTED)) (Fits p MOST_NESTED) (λ m k. fits p MOST_NESTED m k.0 k.1) (includes_in (elements_of p))
-        (found_list (block_within p MOST_NESTED) (elements_of p) MOST_NESTED (and_first _ _ (nested_within db q p e g)))
+    (found_list (block_within p MOST_NESTED) (elements_of p) MOST_NESTED (and_first _ _ (nested_within db q p e g)))

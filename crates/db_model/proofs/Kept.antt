@@ -34,12 +34,12 @@ same_at : (x e d : Entry) → same_place e d ≡ true → same_place x e ≡ sam
 same_at x e d h =
     let k = (place_decides e d).0 h in
     same_from_decides (same_place x e) (same_place x d) (place_decides x e)
-        ((λ t. let m = (place_decides x d).0 t in (m.0 ∙ sym k.0, m.1 ∙ sym k.1)), (λ m. (place_decides x d).1 (m.0 ∙ k.0, m.1 ∙ k.1)))
+    ((λ t. let m = (place_decides x d).0 t in (m.0 ∙ sym k.0, m.1 ∙ sym k.1)), (λ m. (place_decides x d).1 (m.0 ∙ k.0, m.1 ∙ k.1)))
 
 turned_place : (e d : Entry) → same_place e d ≡ same_place d e
 turned_place e d =
     same_from_decides (same_place e d) (same_place d e) (place_decides e d)
-        ((λ t. let m = (place_decides d e).0 t in (sym m.0, sym m.1)), (λ m. (place_decides d e).1 (sym m.0, sym m.1)))
+    ((λ t. let m = (place_decides d e).0 t in (sym m.0, sym m.1)), (λ m. (place_decides d e).1 (sym m.0, sym m.1)))
 
 -- ---- apart, one after another
 
@@ -148,8 +148,9 @@ soonest_there t (e ∷ es) h = by e.deadline (soonest es) refl h (soonest_there 
     by (Some s) None g k ih = or_left (s == t) (list_any (has_deadline t) es) (equal_so s t (cc))
     by (Some s) (Some r) g k ih =
         elim (min_is s r) [
-            inl m ↦ or_left (s == t) (list_any (has_deadline t) es) (equal_so s t (cc))
-          | inr m ↦ or_right (s == t) (list_any (has_deadline t) es) (ih (cc)) ]
+          | inl m ↦ or_left (s == t) (list_any (has_deadline t) es) (equal_so s t (cc))
+          | inr m ↦ or_right (s == t) (list_any (has_deadline t) es) (ih (cc))
+        ]
 
 length_evict : (t : ℕ) (es : List Entry) → list_any (has_deadline t) es ≡ true → suc (length (evict t es)) ≡ length es
 length_evict t [] h = (cc)
@@ -252,13 +253,14 @@ not_there false h = refl
 
 places_apart : (es : List Entry) → IsApart es → Apart es
 places_apart [] h = tt
-places_apart (x ∷ es) h =
-    (not_there (list_any (same_place x) es) (λ g.
-        let r = any_at x es g in
-        let m = (place_decides x r.1).0 r.3 in
-        let e : zero ≡ suc r.0 = h zero (suc r.0) x r.1 refl r.2 m.0 m.1 in
-        (cc)),
-     places_apart es (λ i j d e p q k m. suc_same i j (h (suc i) (suc j) d e p q k m)))
+places_apart (x ∷ es) h = (
+  not_there (list_any (same_place x) es) (λ g.
+      let r = any_at x es g in
+      let m = (place_decides x r.1).0 r.3 in
+      let e : zero ≡ suc r.0 = h zero (suc r.0) x r.1 refl r.2 m.0 m.1 in
+      (cc)),
+  places_apart es (λ i j d e p q k m. suc_same i j (h (suc i) (suc j) d e p q k m)),
+)
   where
     suc_same : (i j : ℕ) → suc i ≡ suc j → i ≡ j
     suc_same i j e = omega arith

@@ -11,3 +11,4 @@ pub mod Worked
 pub mod Judged
 pub mod Rules
 pub mod Layers
+pub mod Fitted

@@ -93,12 +93,14 @@ module _ {S A : Type 0} (db : Database) (t : ℕ) where
       → p z ≡ Asking q k → k a ≡ Gives (r, z') → AnswersTo db t q (Ok a) s l s' l' → Ends db t p (point z s l) (Ok r) (point z' s' l')
   ends_asked p q k a r z z' s l s' l' e g h =
       let x : play db t (Asking q k) s ≡ record { result = (r, z'); session = (ask db s q t).1; log = (q, (ask db s q t).0) ∷ [] } =
-            subst (λ b. play db t (Asking q k) s ≡ record { result = (r, z'); session = (ask db s q t).1; log = (q, (ask db s q t).0) ∷ [] }) h.0
-              (ap (λ (y : Asks (A × S)). record (play db t y (ask db s q t).1) { log = (q, (ask db s q t).0) ∷ (play db t y (ask db s q t).1).log }) (ap k (sym h.0) ∙ g)) in
-      record { ends = subst (λ y. Whole db t y (r, z') s l s' l') (sym e) (record {
-        gave = ap (λ (y : Played (A × S)). y.result) x;
-        follows = subst (λ m. Follows db t m s l s' l') (ap (λ b. (q, b) ∷ []) h.0 ∙ sym (ap (λ (y : Played (A × S)). y.log) x)) h.1;
-      }) }
+      subst (λ b. play db t (Asking q k) s ≡ record { result = (r, z'); session = (ask db s q t).1; log = (q, (ask db s q t).0) ∷ [] }) h.0
+      (ap (λ (y : Asks (A × S)). record (play db t y (ask db s q t).1) { log = (q, (ask db s q t).0) ∷ (play db t y (ask db s q t).1).log }) (ap k (sym h.0) ∙ g)) in
+      record {
+        ends = subst (λ y. Whole db t y (r, z') s l s' l') (sym e) (record {
+          gave = ap (λ (y : Played (A × S)). y.result) x;
+          follows = subst (λ m. Follows db t m s l s' l') (ap (λ b. (q, b) ∷ []) h.0 ∙ sym (ap (λ (y : Played (A × S)). y.log) x)) h.1;
+        });
+      }
 
   -- a question that was refused memory
   pub ends_unasked : (p : Step S A) (q : Question) (e : NoMemory) (z z' : S) (s : Session) (l : Option Log) (s' : Session) (l' : Option Log)

@@ -55,7 +55,7 @@ unchanged db t (Asking q k) s s' h =
     let a = (ask db s q t).0 in
     let next = (ask db s' q t).1 in
     subst (λ b. noted q b (play db t (k b) next) ≡ replayed db t (noted q a (play db t (k a) (ask db s q t).1)) s') (sym h.0)
-        (ap (noted q a) (unchanged db t (k a) (ask db s q t).1 next h.1))
+    (ap (noted q a) (unchanged db t (k a) (ask db s q t).1 next h.1))
 
 -- ---- computations on whole states
 

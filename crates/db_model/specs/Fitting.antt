@@ -1,5 +1,5 @@
 -- When a question, and what a session holds, fit a database: keys and masks have the declared number and sizes, a row has the declared types and at most the declared sizes, and each protocol in it is a declared one.
-use Rattle.std.specs.Prelude.{ℕ, Bool, true, false, ◌&&◌, nat_lt, nat_le, ◌==◌, List, [], ◌∷◌, length, slice_get, Option, Some, None}
+use Rattle.std.specs.Prelude.{◌≡◌, ℕ, Bool, true, false, ◌&&◌, nat_lt, nat_le, ◌==◌, List, [], ◌∷◌, length, slice_get, Option, Some, None}
 use Rattle.std.specs.List.{list_all}
 use Rattle.db_model.specs.declared.database.ColumnDecl.{ColumnDecl}
 use Rattle.db_model.specs.declared.database.Database.{Database}
@@ -79,3 +79,14 @@ tables_fit db (d ∷ ds) (t ∷ ts) = (part_fits db d t.exact && part_fits db d 
 -- a session has one table for each declaration, and each entry fits it
 unfoldable pub session_fits : Database → Session → Bool
 session_fits db s = tables_fit db db.tables s
+
+-- the row of a hit fits the table that was asked
+abbrev pub answer_fits : Database → Option TableDecl → Answer → Type 0
+answer_fits db d Miss = Unit {0}
+answer_fits db d (Hit row) = row_fits db (columns_of d) row ≡ true
+answer_fits db d Done = Unit {0}
+
+-- the table that a question asks
+abbrev pub table_of : Question → ℕ
+table_of (Look n keys renew) = n
+table_of (Add n e) = n

@@ -78,9 +78,9 @@ unfollowed_db = database (protocol 2 (codes "startproto") None (fields 2 (bits 3
 abbrev pub looping_db : Database
 looping_db = database
     (protocol 2 (codes "startproto") None
-      (fields 2 (element.IncludeBlock 2 (codes "x") ∷ [])
-        (named_block 3 (codes "x") (element.IncludeBlock 3 (codes "y") ∷ []) ∷ named_block 4 (codes "y") (element.IncludeBlock 4 (codes "x") ∷ []) ∷ []))
-      None
+    (fields 2 (element.IncludeBlock 2 (codes "x") ∷ [])
+    (named_block 3 (codes "x") (element.IncludeBlock 3 (codes "y") ∷ []) ∷ named_block 4 (codes "y") (element.IncludeBlock 4 (codes "x") ∷ []) ∷ []))
+    None
     ∷ [])
 
 -- a database without protocols

@@ -73,17 +73,17 @@ abbrev pub ip : Protocol
 ip = record (protocol 23 (codes "ip")
     (Some (record { line = 24; before = None; after = list 24 (element.Assign 24 (codes "src") (expr.Field (codes "src")) ∷ element.Assign 24 (codes "dst") (expr.Field (codes "dst")) ∷ []) }))
     (fields 25 (bits 26 (codes "ver") 1 0xf0
-        ∷ bits 26 (codes "hlen") 1 0x0f
-        ∷ fixed 27 (codes "tos") 1
-        ∷ shown 27 (codes "tlen") 2 (codes "num")
-        ∷ fixed 28 (codes "idfrag") 4
-        ∷ fixed 28 (codes "ttl") 1
-        ∷ fixed 29 (codes "proto") 1
-        ∷ fixed 29 (codes "csum") 2
-        ∷ shown 30 (codes "src") 4 (codes "ip4")
-        ∷ shown 30 (codes "dst") 4 (codes "ip4")
-        ∷ element.Field 31 (codes "opts") (form.Variable (expr.Binary op.Sub (expr.Binary op.Mul (expr.ToNumber (expr.Field (codes "hlen"))) (expr.Number 4)) (expr.Number 20))) None None
-        ∷ []) [])
+    ∷ bits 26 (codes "hlen") 1 0x0f
+    ∷ fixed 27 (codes "tos") 1
+    ∷ shown 27 (codes "tlen") 2 (codes "num")
+    ∷ fixed 28 (codes "idfrag") 4
+    ∷ fixed 28 (codes "ttl") 1
+    ∷ fixed 29 (codes "proto") 1
+    ∷ fixed 29 (codes "csum") 2
+    ∷ shown 30 (codes "src") 4 (codes "ip4")
+    ∷ shown 30 (codes "dst") 4 (codes "ip4")
+    ∷ element.Field 31 (codes "opts") (form.Variable (expr.Binary op.Sub (expr.Binary op.Mul (expr.ToNumber (expr.Field (codes "hlen"))) (expr.Number 4)) (expr.Number 20))) None None
+    ∷ []) [])
     (list 32 (chosen 32 (number_of (codes "proto")) 6 (codes "tcp")))) { longname = Some (codes "IPv4"); showsum = Some (codes "ips") }
 
 abbrev pub key : Expr → UpdateKey
@@ -98,15 +98,15 @@ abbrev pub tcp : Protocol
 tcp = record (protocol 33 (codes "tcp")
     (Some (record { line = 34; before = None; after = list 34 (element.If 34 (expr.Binary op.Eq (number_of (codes "dport")) (expr.Number 80)) 34 (remember ∷ []) None ∷ []) }))
     (fields 38 (shown 39 (codes "sport") 2 (codes "num")
-        ∷ shown 39 (codes "dport") 2 (codes "num")
-        ∷ fixed 40 (codes "seqack") 8
-        ∷ bits 41 (codes "off") 1 0xf0
-        ∷ bits 41 (codes "res") 1 0x0f
-        ∷ fixed 42 (codes "flags") 1
-        ∷ fixed 42 (codes "win") 2
-        ∷ fixed 43 (codes "csumurg") 4
-        ∷ element.Field 44 (codes "opts") (form.Variable (expr.Binary op.Sub (expr.Binary op.Mul (expr.ToNumber (expr.Field (codes "off"))) (expr.Number 4)) (expr.Number 20))) None None
-        ∷ []) [])
+    ∷ shown 39 (codes "dport") 2 (codes "num")
+    ∷ fixed 40 (codes "seqack") 8
+    ∷ bits 41 (codes "off") 1 0xf0
+    ∷ bits 41 (codes "res") 1 0x0f
+    ∷ fixed 42 (codes "flags") 1
+    ∷ fixed 42 (codes "win") 2
+    ∷ fixed 43 (codes "csumurg") 4
+    ∷ element.Field 44 (codes "opts") (form.Variable (expr.Binary op.Sub (expr.Binary op.Mul (expr.ToNumber (expr.Field (codes "off"))) (expr.Number 4)) (expr.Number 20))) None None
+    ∷ []) [])
     (list 45 (element.If 45 (expr.LookUp (codes "sessions") true (expr.Variable (codes "src") ∷ expr.Variable (codes "dst") ∷ expr.Field (codes "sport") ∷ expr.Field (codes "dport") ∷ [])) 45 (element.NextProto 46 (expr.Column (codes "sessions") (codes "next")) ∷ []) None ∷ []))) { showsum = Some (codes "tcps") }
 
 abbrev pub text : Protocol

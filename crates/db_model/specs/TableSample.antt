@@ -59,6 +59,6 @@ unfoldable pub table_db : Database
 table_db = record (database
     (protocol 3 (codes "startproto") None None (list 3 (element.NextProto 3 (expr.Protocol (codes "op")) ∷ []))
     ∷ protocol 4 (codes "op") None
-        (fields 4 (fixed 5 (codes "o") 1 ∷ fixed 5 (codes "k") 1 ∷ fixed 5 (codes "v") 1 ∷ operations ∷ []) (named_block 16 (codes "hit") [] ∷ named_block 16 (codes "miss") [] ∷ []))
-        None
+    (fields 4 (fixed 5 (codes "o") 1 ∷ fixed 5 (codes "k") 1 ∷ fixed 5 (codes "v") 1 ∷ operations ∷ []) (named_block 16 (codes "hit") [] ∷ named_block 16 (codes "miss") [] ∷ []))
+    None
     ∷ [])) { tables = one_table ∷ [] }

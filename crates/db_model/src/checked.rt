@@ -17,7 +17,6 @@ pub struct CheckedDb {
 impl Model for CheckedDb {
     ghost use Rattle.db_model.specs.declared.database.Database.{Database};
     ghost use Rattle.db_model.specs.Objection.{IsChecked};
-
     ghost use Rattle.db_model.specs.contracts.database.Database as contract;
 
     ghost Value = { Database };
