@@ -1,5 +1,5 @@
 -- What an element does: a run, given how many fields and blocks of the protocol stand before it.
-use Rattle.std.specs.Prelude.{ℕ, zero, suc, Bool, true, false, ◌&&◌, if◌then◌else◌, nat_le, ◌==◌, List, [], ◌∷◌, ◌++◌, map, length, replicate, slice_get, slice_set, is_some, unwrap_or, Option, Some, None}
+use Rattle.std.specs.Prelude.{ℕ, zero, suc, Bool, true, false, ◌&&◌, if◌then◌else◌, nat_le, ◌==◌, List, [], ◌∷◌, ◌++◌, map, length, take, replicate, slice_get, slice_set, is_some, unwrap_or, Option, Some, None}
 use Rattle.std.specs.List.{list_any}
 use Rattle.db_model.specs.declared.database.ColumnDecl.{ColumnDecl}
 use Rattle.db_model.specs.declared.database.Database.{Database}
@@ -35,19 +35,19 @@ use Rattle.db_model.specs.Runs.{Run, next, leave, go, evaluated, block, place_fi
 
 -- ---- updates
 
--- the mask of a key that has none, beside one that has
+-- the masks of keys of which one has a mask: one that has none keeps all bits, and none is longer than its key
 abbrev pub filled : List ℕ → List (Option (List ℕ)) → List (List ℕ)
 filled [] ms = []
 filled (size ∷ sizes) [] = []
-filled (size ∷ sizes) (m ∷ ms) = unwrap_or m (replicate size 255) ∷ filled sizes ms
+filled (size ∷ sizes) (m ∷ ms) = take size (unwrap_or m (replicate size 255)) ∷ filled sizes ms
 
 -- masks, where one of the keys has one
 abbrev pub masks_of : List ℕ → List (Option (List ℕ)) → Option (List (List ℕ))
 masks_of sizes ms = if list_any is_some ms then Some (filled sizes ms) else None
 
--- a value is no longer than its column
+-- a value is no longer than its column, and a column without a size has room for no bytes
 abbrev pub fits_column : Option ℕ → Value → Bool
-fits_column None v = true
+fits_column None v = nat_le (length (buf v)) 0
 fits_column (Some most) v = nat_le (length (buf v)) most
 
 -- the values of a row, each checked for its size right after it is evaluated, behind those that are there

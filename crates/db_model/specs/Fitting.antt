@@ -1,4 +1,4 @@
--- When a question, and what a session holds, fit a database: keys and masks have the declared number and sizes, a row has the declared types and at most the declared sizes, and each protocol in it is a declared one.
+-- When a table has room for what a question holds, and when a question and what a session holds fit a database. They fit where keys and masks have the declared number and sizes, a row has the declared types and at most the declared sizes, and each protocol in it is a declared one.
 use Rattle.std.specs.Prelude.{◌≡◌, ℕ, Bool, true, false, ◌&&◌, nat_lt, nat_le, ◌==◌, List, [], ◌∷◌, length, slice_get, Option, Some, None}
 use Rattle.std.specs.List.{list_all}
 use Rattle.db_model.specs.declared.database.ColumnDecl.{ColumnDecl}
@@ -18,6 +18,38 @@ use Rattle.db_model.specs.Elements.{fits_column}
 use Rattle.db_model.specs.Expression.{key_sizes, columns_of}
 use Rattle.db_model.specs.Session.{Session}
 use Rattle.db_model.specs.Table.{Parts, KeyList}
+
+-- ---- room: what a table makes room for before it is asked
+
+-- at most so many keys, each of at most its size
+abbrev pub keys_room : List ℕ → KeyList → Bool
+keys_room sizes [] = true
+keys_room [] (k ∷ ks) = false
+keys_room (s ∷ ss) (k ∷ ks) = nat_le (length k) s && keys_room ss ks
+
+abbrev pub masks_room : List ℕ → Option KeyList → Bool
+masks_room sizes None = true
+masks_room sizes (Some masks) = keys_room sizes masks
+
+-- at most so many values, none longer than its column
+abbrev pub row_room : List ColumnDecl → List Value → Bool
+row_room cs [] = true
+row_room [] (v ∷ vs) = false
+row_room (c ∷ cs) (v ∷ vs) = fits_column c.size v && row_room cs vs
+
+-- a table of this declaration has room for the asked keys, and for the entry
+abbrev pub look_has_room : Option TableDecl → KeyList → Bool
+look_has_room d keys = keys_room (key_sizes d) keys
+
+abbrev pub add_has_room : Option TableDecl → NewEntry → Bool
+add_has_room d n = keys_room (key_sizes d) n.keys && (masks_room (key_sizes d) n.masks && row_room (columns_of d) n.row)
+
+-- the table that a question asks has room for what it holds
+unfoldable pub has_room : Database → Question → Bool
+has_room db (Look n keys renew) = look_has_room (slice_get db.tables n) keys
+has_room db (Add n e) = add_has_room (slice_get db.tables n) e
+
+-- ---- fitting
 
 -- one list of bytes of each size
 abbrev pub keys_fit : List ℕ → KeyList → Bool

@@ -5,6 +5,7 @@
 mod bytes;
 mod checked;
 mod database;
+mod declaration;
 mod element;
 mod entry;
 mod env;
@@ -29,6 +30,7 @@ pub use database::{
     Protocol, SectionDecl, ShowTemplate, ShowType, SumItem, SumStruct, SumTemplate, TableDecl,
     VarDecl, VarValidity,
 };
+pub use declaration::{Declaration, place_of};
 pub use element::{
     Branch, Case, Element, FieldForm, LoopControl, LoopKind, UpdateKey, UpdateValue,
 };
