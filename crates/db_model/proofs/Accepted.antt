@@ -1,11 +1,16 @@
 -- In a database without an objection none of the eight faults stands.
-use Rattle.std.specs.Prelude.{◌≡◌, ℕ, List, [], ◌∷◌, ◌++◌, Option, Some, None}
-use Rattle.std.proofs.Common.{refl}
+use Rattle.std.specs.Prelude.{◌≡◌, ℕ, ◌≤◌, List, [], ◌∷◌, ◌++◌, map, length, drop, None}
+use Rattle.std.proofs.Common.{refl, ap, arith, length-drop}
+use Rattle.std.proofs.lemmas.List.{length-map}
+use Rattle.db_model.specs.declared.database.Protocol.{Protocol}
+use Rattle.db_model.specs.declared.database.TableDecl.{TableDecl}
+use Rattle.db_model.specs.declared.database.VarDecl.{VarDecl}
+use Rattle.db_model.specs.declared.limits.TheConstants.{MOST_PROTOCOLS, MOST_VARIABLES, MOST_TABLES, MOST_SHOW_TEMPLATES, MOST_SUM_TEMPLATES}
 use Rattle.db_model.specs.declared.database.Database.{Database}
 use Rattle.db_model.specs.BlockFaults.{fault_45, fault_46}
-use Rattle.db_model.specs.Lines.{Lines}
+use Rattle.db_model.specs.Lines.{Lines, over, lines_in}
 use Rattle.db_model.specs.NameFaults.{fault_40, fault_41}
-use Rattle.db_model.specs.NumberFaults.{fault_43, fault_44}
+use Rattle.db_model.specs.NumberFaults.{own_43, tables_43, template_43, first_of, too_many, fault_43, fault_44}
 use Rattle.db_model.specs.Objection.{Fault, coded, faults, least, objection}
 use Rattle.db_model.specs.TypeFaults.{fault_42, fault_47}
 
@@ -62,4 +67,38 @@ no_faults db e =
       none_45 = coded_none 45 (fault_45 db) (append_front (coded 45 (fault_45 db)) l46 e45);
       none_46 = coded_none 46 (fault_46 db) (append_front (coded 46 (fault_46 db)) l47 e46);
       none_47 = coded_none 47 (fault_47 db) e47;
+    }
+
+-- ---- how many are declared
+
+first_none : (ls : Lines) → first_of ls ≡ [] → ls ≡ []
+first_none [] e = refl
+first_none (l ∷ ls) e = (cc)
+
+few : (most : ℕ) (ls : Lines) → too_many most ls ≡ [] → length ls ≤ most
+few most ls e = let d = ap length (first_none (drop most ls) e) in omega (arith, length-drop most ls)
+
+pub record Few (db : Database) : Type 0 where
+  pub protocols : length db.protocols ≤ MOST_PROTOCOLS
+  pub variables : length db.variables ≤ MOST_VARIABLES
+  pub tables : length db.tables ≤ MOST_TABLES
+
+-- a database without an objection declares no more than it may
+pub few_declared : (db : Database) → objection db ≡ None → Few db
+unfolding fault_43
+few_declared db e =
+    let t : Lines = too_many MOST_TABLES (map (λ d. d.line) db.tables) ++ (too_many MOST_SHOW_TEMPLATES (map (λ d. d.line) db.show_templates) ++ too_many MOST_SUM_TEMPLATES (map (λ d. d.line) db.sum_templates)) in
+    let v : Lines = too_many MOST_VARIABLES (map (λ d. d.line) db.variables) ++ t in
+    let p : Lines = too_many MOST_PROTOCOLS (map (λ d. d.line) db.protocols) ++ v in
+    let rest : Lines = over (lines_in own_43) db.protocols ++ p in
+    let shown : Lines = over template_43 db.show_templates ++ rest in
+    let e1 = append_back (tables_43 0 db.tables) shown (no_faults db e).none_43 in
+    let e2 = append_back (over template_43 db.show_templates) rest e1 in
+    let e3 : p ≡ [] = append_back (over (lines_in own_43) db.protocols) p e2 in
+    let e4 : v ≡ [] = append_back (too_many MOST_PROTOCOLS (map (λ d. d.line) db.protocols)) v e3 in
+    let e5 : t ≡ [] = append_back (too_many MOST_VARIABLES (map (λ d. d.line) db.variables)) t e4 in
+    record {
+      protocols = omega (arith, few MOST_PROTOCOLS (map (λ d. d.line) db.protocols) (append_front (too_many MOST_PROTOCOLS (map (λ d. d.line) db.protocols)) v e3), length-map db.protocols (λ (d : Protocol). d.line));
+      variables = omega (arith, few MOST_VARIABLES (map (λ d. d.line) db.variables) (append_front (too_many MOST_VARIABLES (map (λ d. d.line) db.variables)) t e4), length-map db.variables (λ (d : VarDecl). d.line));
+      tables = omega (arith, few MOST_TABLES (map (λ d. d.line) db.tables) (append_front (too_many MOST_TABLES (map (λ d. d.line) db.tables)) (too_many MOST_SHOW_TEMPLATES (map (λ d. d.line) db.show_templates) ++ too_many MOST_SUM_TEMPLATES (map (λ d. d.line) db.sum_templates)) e5), length-map db.tables (λ (d : TableDecl). d.line));
     }

@@ -1,6 +1,6 @@
 -- The smallest database is shaped, and nothing is wrong with it.
-use Rattle.std.specs.Prelude.{◌≡◌, true, List, [], ◌∷◌, Option, Some, None, codes}
-use Rattle.std.proofs.Common.{refl, sym, ap, subst, ◌∙◌}
+use Rattle.std.specs.Prelude.{◌≡◌, true, List, [], ◌∷◌, None}
+use Rattle.std.proofs.Common.{refl, ◌∙◌}
 use Rattle.db_model.specs.declared.database.Database.{Database}
 use Rattle.db_model.specs.declared.database.Protocol.{Protocol}
 use Rattle.db_model.specs.declared.database.ShowTemplate.{ShowTemplate}

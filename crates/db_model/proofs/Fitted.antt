@@ -1,10 +1,9 @@
 -- A question that fits leaves a session that fits, and the row of its hit fits.
-use Rattle.std.specs.Prelude.{◌≡◌, ℕ, zero, suc, Bool, true, false, ◌&&◌, ◌||◌, if◌then◌else◌, nat_lt, ◌==◌, List, [], ◌∷◌, ◌++◌, map, zip, length, find, slice_get, slice_set, bit_and, Option, Some, None}
-use Rattle.std.proofs.Common.{refl, sym, ap, subst, ◌∙◌, arith, Decides}
+use Rattle.std.specs.Prelude.{◌≡◌, ℕ, zero, suc, Bool, true, false, ◌&&◌, if◌then◌else◌, nat_lt, ◌==◌, List, [], ◌∷◌, ◌++◌, length, find, slice_get, slice_set, Option, Some, None}
+use Rattle.std.proofs.Common.{refl, sym, ap, subst, ◌∙◌, arith}
 use Rattle.std.specs.List.{list_any, list_all}
 use Rattle.std.specs.Option.{option_eq}
 use Rattle.std.proofs.lemmas.Bool.Decides.{Decides-eqb}
-use Rattle.db_model.specs.declared.database.ColumnDecl.{ColumnDecl}
 use Rattle.db_model.specs.declared.database.Database.{Database}
 use Rattle.db_model.specs.declared.database.TableDecl.{TableDecl}
 use Rattle.db_model.specs.declared.entry.Entry.{Entry}
@@ -13,13 +12,11 @@ use Rattle.db_model.specs.declared.entry.Validity.{Validity}
 use Rattle.db_model.specs.declared.entry.Validity.TheVariants.{Forever, MaxTime, UpdateOnHit, AddOnHit}
 use Rattle.db_model.specs.declared.question.Answer.{Answer}
 use Rattle.db_model.specs.declared.question.Answer.TheVariants.{Miss, Hit, Done}
-use Rattle.db_model.specs.declared.question.Question.{Question}
 use Rattle.db_model.specs.declared.question.Question.TheVariants.{Look, Add}
-use Rattle.db_model.specs.declared.value.Value.{Value}
-use Rattle.db_model.specs.Expression.{key_sizes, columns_of}
+use Rattle.db_model.specs.Expression.{key_sizes}
 use Rattle.db_model.specs.Fitting.{keys_fit, masks_fit, row_fits, look_fits, entry_fits, add_fits, question_fits, part_fits, tables_fit, session_fits, answer_fits}
 use Rattle.db_model.specs.Laws.{FitsStay}
-use Rattle.db_model.specs.Session.{Session, look_in, add_in, set_table, ask}
+use Rattle.db_model.specs.Session.{Session, look_in, add_in, ask}
 use Rattle.db_model.specs.Table.{Parts, KeyList, same_keys, same_place, masked, masked_by, live, matches, replace, soonest, evict, put_in_full, put_in, put_by, put, entry_at, add, if_live, first_of, found, renewed_by, answered, look}
 
 and_first : (a b : Bool) → (a && b) ≡ true → a ≡ true
@@ -143,8 +140,8 @@ module _ (db : Database) (d : TableDecl) where
       let a = and_first (keys_fit sizes n.keys) (masks_fit sizes n.masks && row_fits db d.columns n.row) k in
       let b = and_second (keys_fit sizes n.keys) (masks_fit sizes n.masks && row_fits db d.columns n.row) k in
       put_fits t (entry_at n now) h
-        (and_both (keys_fit sizes (masked_by n.masks n.keys)) (masks_fit sizes n.masks && row_fits db d.columns n.row)
-          (keys_by sizes n.masks n.keys (and_first (masks_fit sizes n.masks) (row_fits db d.columns n.row) b) a) b)
+      (and_both (keys_fit sizes (masked_by n.masks n.keys)) (masks_fit sizes n.masks && row_fits db d.columns n.row)
+      (keys_by sizes n.masks n.keys (and_first (masks_fit sizes n.masks) (row_fits db d.columns n.row) b) a) b)
 
   row_of_fits : (e : Entry) → fits_here e ≡ true → row_fits db d.columns e.row ≡ true
   row_of_fits e k =

@@ -1,17 +1,17 @@
 -- The levels of included blocks are enough: in a database without fault 46, one more level changes nothing.
-use Rattle.std.specs.Prelude.{◌≡◌, ℕ, zero, suc, Bool, true, false, not, ◌&&◌, ◌||◌, if◌then◌else◌, List, [], ◌∷◌, ◌++◌, map, slice_get, Option, Some, None}
-use Rattle.std.proofs.Common.{refl, sym, ap, subst, ◌∙◌}
+use Rattle.std.specs.Prelude.{◌≡◌, ℕ, zero, suc, Bool, true, false, not, ◌&&◌, if◌then◌else◌, List, [], ◌∷◌, ◌++◌, slice_get, Option, Some, None}
+use Rattle.std.proofs.Common.{refl, ap, subst}
 use Rattle.db_model.specs.declared.database.Database.{Database}
 use Rattle.db_model.specs.declared.database.Protocol.{Protocol}
 use Rattle.db_model.specs.declared.element.Element as element
 use Rattle.db_model.specs.declared.element.Element.{Element, Row_of-Element, end_of-Element, more_of-Element, Row_of-Case, end_of-Case, more_of-Case, Held-Element-Switch-3, None', Some'}
 use Rattle.db_model.specs.declared.limits.TheConstants.{MOST_NESTED}
-use Rattle.db_model.specs.BlockFaults.{includes_step, includes_of, includes_in, Within, one_within, all_within, cases_within, branch_within, within_step, within_of, within_in, block_by, block_within, protocol_within, is_nothing, protocol_45, protocol_46, fault_45, fault_46}
+use Rattle.db_model.specs.BlockFaults.{includes_step, includes_of, includes_in, Within, all_within, cases_within, branch_within, within_step, within_of, within_in, block_by, block_within, protocol_within, is_nothing, protocol_45, protocol_46, fault_45, fault_46}
 use Rattle.db_model.specs.Chain.{elements_of}
 use Rattle.db_model.specs.Elements.{does, means, number, parts, total, each, or_next, choose, loop_by, block_of, included, list_within, Part}
 use Rattle.db_model.specs.Expression.{is_so}
-use Rattle.db_model.specs.Folds.{Noted, CaseOf, BranchOf, fold_row, fold_cases, fold_held, noted_row, noted_cases, noted_held}
-use Rattle.db_model.specs.Lines.{Lines, over, at_line, joined}
+use Rattle.db_model.specs.Folds.{CaseOf, BranchOf, fold_row, fold_cases, fold_held, noted_row, noted_cases, noted_held}
+use Rattle.db_model.specs.Lines.{Lines, over, at_line}
 use Rattle.db_model.specs.Names.{Text}
 use Rattle.db_model.specs.Numbering.{Counts, plus, a_block, counts_of, BlockAt, block_at, field_names, all_names, case_names, branch_names}
 use Rattle.db_model.specs.Objection.{objection}

@@ -1,17 +1,15 @@
 -- The laws of the definitions.
-use Rattle.std.specs.Prelude.{◌≡◌, ℕ, zero, suc, ◌+◌, ◌≤◌, ◌<◌, List, [], ◌∷◌, ◌++◌, length, slice_get, Option, Some, None}
+use Rattle.std.specs.Prelude.{◌≡◌, ℕ, zero, suc, ◌<◌, List, [], ◌∷◌, ◌++◌, length, slice_get, Option}
 use Rattle.std.proofs.Common.{refl, sym, ap, subst, ◌∙◌, arith}
 use Rattle.std.proofs.lemmas.List.{append_cancel_left}
-use Rattle.db_model.specs.declared.database.Database.{Database}
 use Rattle.db_model.specs.declared.limits.TheConstants.{MOST_NESTED}
 use Rattle.db_model.specs.declared.packet.Packet.{Packet}
 use Rattle.db_model.specs.Chain.{elements_of}
 use Rattle.db_model.specs.Decoding.{dec, decoding}
 use Rattle.db_model.specs.Laws.{UnchangedDecoding, UnchangedComputation, DiffersNowhere, AgreesInParts, SessionOfDecoding, SerialFrom, SerialFront, IncludesEnd, CarriesState}
-use Rattle.db_model.specs.Questions.{Log, Played, play, State, Step, from, from_play}
+use Rattle.db_model.specs.Questions.{Log, play, from_play}
 use Rattle.db_model.specs.Replay.{after, Agrees}
 use Rattle.db_model.specs.Serial.{decoded, state}
-use Rattle.db_model.specs.Session.{Session}
 use Rattle.db_model.proofs.Includes.{includes_fit, list_more}
 use Rattle.db_model.proofs.Play.{unchanged, session_after, agrees_here, agrees_append, agrees_first, agrees_rest, from_then}
 use Rattle.db_model.proofs.Replay.{differs_none, none_differs}

@@ -9,12 +9,7 @@ use Rattle.db_model.specs.declared.element.Case.{Case}
 use Rattle.db_model.specs.declared.element.Element.{Element}
 use Rattle.db_model.specs.declared.element.Element.TheBlock.{hidden-the_row-Element-0, hidden-the_row-Case-1, back-Element-Switch-3}
 use Rattle.db_model.specs.declared.element.Element.TheOpen as in_element
-use Rattle.db_model.specs.declared.element.FieldForm.{FieldForm}
-use Rattle.db_model.specs.declared.element.LoopControl.{LoopControl}
 use Rattle.db_model.specs.declared.element.LoopKind.{LoopKind}
-use Rattle.db_model.specs.declared.element.UpdateKey.{UpdateKey}
-use Rattle.db_model.specs.declared.element.UpdateValue.{UpdateValue}
-use Rattle.db_model.specs.declared.entry.Validity.{Validity}
 use Rattle.db_model.specs.declared.expression.Expr as expr
 use Rattle.db_model.specs.declared.expression.Expr.{Expr, Expr-F}
 use Rattle.db_model.specs.declared.expression.Expr.TheBlock.{hidden-the_row-Expr-0, hidden-the_row-Expr-1}

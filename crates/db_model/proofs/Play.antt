@@ -1,11 +1,9 @@
 -- Laws of computations that ask: how they are joined, replayed and told.
-use Rattle.std.specs.Prelude.{◌≡◌, ℕ, Bool, true, false, List, [], ◌∷◌, ◌++◌, Option, Some, None, ◌↔◌}
-use Rattle.std.proofs.Common.{refl, sym, ap, subst, ◌∙◌, append_assoc, append-nil, arith, Decides}
+use Rattle.std.specs.Prelude.{◌≡◌, ℕ, [], ◌∷◌, ◌++◌}
+use Rattle.std.proofs.Common.{refl, sym, ap, subst, ◌∙◌, append_assoc}
 use Rattle.db_model.specs.declared.database.Database.{Database}
-use Rattle.db_model.specs.declared.question.Question.{Question}
-use Rattle.db_model.specs.declared.question.Answer.{Answer}
-use Rattle.db_model.specs.Questions.{Asks, Gives, Asking, and_then, Log, Played, noted, play, Step, pure, ◌then◌, State, from}
-use Rattle.db_model.specs.Replay.{after, Agrees, Difference, differs, differs_by, later, same_answer, same_value}
+use Rattle.db_model.specs.Questions.{Asks, Gives, Asking, and_then, Log, Played, noted, play, Step, ◌then◌, State, from}
+use Rattle.db_model.specs.Replay.{after, Agrees}
 use Rattle.db_model.specs.Session.{Session, ask}
 
 -- a play whose log stands behind that of another

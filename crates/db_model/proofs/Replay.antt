@@ -1,15 +1,15 @@
 -- The first answer that isn't the noted one is none exactly where a log agrees.
-use Rattle.std.specs.Prelude.{◌≡◌, ℕ, Bool, true, false, List, [], ◌∷◌, Option, Some, None, ◌↔◌, bytes_eq}
-use Rattle.std.proofs.Common.{refl, sym, ap, subst, arith, Decides, rules}
+use Rattle.std.specs.Prelude.{◌≡◌, ℕ, Bool, true, false, [], ◌∷◌, Option, Some, None}
+use Rattle.std.proofs.Common.{refl, ap, Decides}
 use Rattle.std.proofs.lemmas.Bool.Decides.{Decides-eqb}
-use Rattle.std.specs.Cmp.Lexicographic.{pointwise, pointwise_decides, bytes_decides}
+use Rattle.std.specs.Cmp.Lexicographic.{pointwise_decides, bytes_decides}
 use Rattle.db_model.specs.declared.database.Database.{Database}
 use Rattle.db_model.specs.declared.question.Answer.{Answer}
 use Rattle.db_model.specs.declared.question.Answer.TheVariants.{Miss, Hit, Done}
 use Rattle.db_model.specs.declared.value.Value.{Value}
 use Rattle.db_model.specs.declared.value.Value.TheVariants.{Num, Buf, Proto}
 use Rattle.db_model.specs.Questions.{Log}
-use Rattle.db_model.specs.Replay.{after, Agrees, Difference, differs, differs_by, later, same_answer, same_value}
+use Rattle.db_model.specs.Replay.{Agrees, Difference, differs, differs_by, later, same_answer, same_value}
 use Rattle.db_model.specs.Session.{Session, ask}
 
 pub value_decides : (a b : Value) → Decides (same_value a b) (a ≡ b)

@@ -6,7 +6,7 @@ use Rattle.db_model.specs.declared.expression.Expr.TheBlock.{hidden-the_row-Expr
 use Rattle.db_model.specs.Chain.{chain}
 use Rattle.db_model.specs.Decoding.{decoding, dec}
 use Rattle.db_model.specs.Elements.{means, list}
-use Rattle.db_model.specs.Examples.{SessionIsHit, EmptyPacket, ShortPacket, TurnsEnd, RightSideAlone, DeadlineIsEnd, FullTable, TimeRunsBackwards, MaskedAddsOnHit, FirstFrame, ExpressionsGive, DatabasesAreJudged}
+use Rattle.db_model.specs.Examples.{SessionIsHit, EmptyPacket, ShortPacket, TurnsEnd, RightSideAlone, DeadlineIsEnd, FullTable, TimeRunsBackwards, MaskedAddsOnHit, FirstFrame, ExpressionsGive}
 use Rattle.db_model.specs.Expression.{val}
 use Rattle.db_model.specs.Extent.{extent}
 use Rattle.db_model.specs.Numbering.{counts_of, names_of, field_names}

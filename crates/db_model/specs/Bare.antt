@@ -1,7 +1,6 @@
 -- The smallest database: one protocol to begin with, without parts.
 use Rattle.std.specs.Prelude.{[], ◌∷◌, None}
 use Rattle.db_model.specs.declared.database.Database.{Database}
-use Rattle.db_model.specs.declared.database.Protocol.{Protocol}
 use Rattle.db_model.specs.Names.{startproto}
 
 abbrev pub bare : Database

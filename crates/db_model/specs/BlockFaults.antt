@@ -1,5 +1,5 @@
 -- The faults of included blocks: one that includes itself (45), and blocks and loops that stand too deep in one another (46).
-use Rattle.std.specs.Prelude.{ℕ, zero, suc, Bool, true, false, not, ◌||◌, ◌&&◌, if◌then◌else◌, List, [], ◌∷◌, ◌++◌, map, length, bytes_eq, Option, Some, None}
+use Rattle.std.specs.Prelude.{ℕ, zero, suc, Bool, true, false, not, ◌||◌, ◌&&◌, List, [], ◌∷◌, ◌++◌, map, length, bytes_eq, Option, Some, None}
 use Rattle.std.specs.List.{list_any, list_all}
 use Rattle.db_model.specs.declared.database.Database.{Database}
 use Rattle.db_model.specs.declared.database.NamedBlock.{NamedBlock}

@@ -13,7 +13,7 @@ use Rattle.db_model.specs.declared.tree.Proto.{Proto}
 use Rattle.db_model.specs.declared.tree.Reason.TheVariants as reason
 use Rattle.db_model.specs.Elements.{list}
 use Rattle.db_model.specs.Numbering.{none, elements_in, fields_in}
-use Rattle.db_model.specs.Questions.{Asks, Gives, and_then, Step}
+use Rattle.db_model.specs.Questions.{Gives, and_then, Step}
 use Rattle.db_model.specs.Runs.{Run, next}
 
 abbrev pub before_in : Option ExecuteCode → List Element

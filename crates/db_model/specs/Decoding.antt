@@ -1,5 +1,5 @@
 -- The decoding of one packet: what it asks, and what it is over a session.
-use Rattle.std.specs.Prelude.{ℕ, ◌-◌, Bool, if◌then◌else◌, nat_lt, List, [], ◌∷◌, ◌++◌, map, length, drop, Option, None}
+use Rattle.std.specs.Prelude.{◌-◌, if◌then◌else◌, nat_lt, List, [], ◌∷◌, ◌++◌, map, length, drop, None}
 use Rattle.db_model.specs.declared.database.Database.{Database}
 use Rattle.db_model.specs.declared.env.Env.{Env}
 use Rattle.db_model.specs.declared.env.Frame.{Frame}

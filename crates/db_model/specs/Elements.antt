@@ -1,5 +1,5 @@
 -- What an element does: a run, given how many fields and blocks of the protocol stand before it.
-use Rattle.std.specs.Prelude.{ℕ, zero, suc, Bool, true, false, ◌&&◌, if◌then◌else◌, nat_le, ◌==◌, List, [], ◌∷◌, ◌++◌, map, length, take, replicate, slice_get, slice_set, is_some, unwrap_or, Option, Some, None}
+use Rattle.std.specs.Prelude.{ℕ, zero, suc, Bool, ◌&&◌, if◌then◌else◌, nat_le, List, [], ◌∷◌, ◌++◌, map, length, take, replicate, slice_get, slice_set, is_some, unwrap_or, Option, Some, None}
 use Rattle.std.specs.List.{list_any}
 use Rattle.db_model.specs.declared.database.ColumnDecl.{ColumnDecl}
 use Rattle.db_model.specs.declared.database.Database.{Database}
@@ -15,9 +15,8 @@ use Rattle.db_model.specs.declared.element.LoopKind.{LoopKind}
 use Rattle.db_model.specs.declared.element.LoopKind.TheVariants as kind
 use Rattle.db_model.specs.declared.element.UpdateKey.{UpdateKey}
 use Rattle.db_model.specs.declared.element.UpdateValue.{UpdateValue}
-use Rattle.db_model.specs.declared.entry.NewEntry.{NewEntry}
 use Rattle.db_model.specs.declared.entry.Validity.{Validity}
-use Rattle.db_model.specs.declared.env.Way.TheVariants.{Next, Break, Continue, Chose, Stop}
+use Rattle.db_model.specs.declared.env.Way.TheVariants.{Next, Break, Continue, Chose}
 use Rattle.db_model.specs.declared.expression.Expr.{Expr}
 use Rattle.db_model.specs.declared.field_kind.FieldKind.TheVariants.{Variable}
 use Rattle.db_model.specs.declared.limits.TheConstants.{MOST_NESTED}

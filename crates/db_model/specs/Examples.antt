@@ -11,7 +11,7 @@ use Rattle.db_model.specs.declared.packet.Packet.{Packet}
 use Rattle.db_model.specs.declared.question.Answer.{Answer}
 use Rattle.db_model.specs.declared.question.Answer.TheVariants.{Miss, Hit, Done}
 use Rattle.db_model.specs.declared.tree.Node.{Node}
-use Rattle.db_model.specs.declared.tree.Node.TheVariants.{Field, Block, Block', Note}
+use Rattle.db_model.specs.declared.tree.Node.TheVariants.{Field, Block', Note}
 use Rattle.db_model.specs.declared.tree.Proto.{Proto}
 use Rattle.db_model.specs.declared.tree.Reason.{Reason}
 use Rattle.db_model.specs.declared.tree.Reason.TheVariants.{Short, Turns, Range, Zero, Slice, Size}
@@ -29,7 +29,6 @@ use Rattle.db_model.specs.Session.{Session, declared}
 use Rattle.db_model.specs.SessionPackets.{captured, conversation, request_tree, answer_tree, stray_tree}
 use Rattle.db_model.specs.SessionSample.{sessions_db}
 use Rattle.db_model.specs.Shape.{is_shaped}
-use Rattle.db_model.specs.Table.{Parts}
 use Rattle.db_model.specs.TableSample.{table_db}
 
 -- the answers in the log of the packet at place k

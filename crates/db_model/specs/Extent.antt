@@ -1,5 +1,5 @@
 -- Where a field ends, and the value that it has.
-use Rattle.std.specs.Prelude.{ℕ, zero, suc, ◌+◌, ◌-◌, ◌%◌, Bool, if◌then◌else◌, nat_eq, nat_le, ◌==◌, List, [], ◌∷◌, length, take, drop, Option, Some, None}
+use Rattle.std.specs.Prelude.{ℕ, zero, suc, ◌-◌, ◌%◌, if◌then◌else◌, nat_eq, nat_le, ◌==◌, List, [], ◌∷◌, length, take, drop, Option, Some, None}
 use Rattle.std.specs.List.{starts_with}
 use Rattle.db_model.specs.declared.element.FieldForm.{FieldForm}
 use Rattle.db_model.specs.declared.element.FieldForm.TheVariants as form

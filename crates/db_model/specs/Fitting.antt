@@ -17,7 +17,7 @@ use Rattle.db_model.specs.declared.value.Ty.TheVariants as ty
 use Rattle.db_model.specs.Elements.{fits_column}
 use Rattle.db_model.specs.Expression.{key_sizes, columns_of}
 use Rattle.db_model.specs.Session.{Session}
-use Rattle.db_model.specs.Table.{Parts, KeyList}
+use Rattle.db_model.specs.Table.{KeyList}
 
 -- ---- room: what a table makes room for before it is asked
 

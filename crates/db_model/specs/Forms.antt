@@ -1,9 +1,10 @@
 -- The forms of names, texts and expressions.
-use Rattle.std.specs.Prelude.{ℕ, ◌+◌, max, Bool, true, not, ◌&&◌, ◌||◌, nat_le, ◌==◌, List, [], ◌∷◌, map, sum, fold, length, codes, Option, Some, None}
+use Rattle.std.specs.Prelude.{ℕ, ◌+◌, max, Bool, true, not, ◌&&◌, ◌||◌, nat_le, ◌==◌, List, [], ◌∷◌, sum, fold, length, codes, Option, Some, None}
 use Rattle.std.specs.List.{list_all}
 use Rattle.db_model.specs.declared.expression.Expr.{Expr, Expr-F}
 use Rattle.db_model.specs.declared.expression.Expr.TheOpen as layer
 use Rattle.db_model.specs.declared.limits.TheConstants.{MOST_TEXT, MOST_NUMBER_BYTES, MOST_EXPRESSION_NODES, MOST_EXPRESSION_DEPTH}
+use Rattle.db_model.specs.declared.names.TheConstants.{MOST_NAME}
 use Rattle.db_model.specs.Folds.{fold_expr}
 use Rattle.db_model.specs.Names.{Text}
 use Rattle.db_model.specs.Typing.{is_among}
@@ -25,11 +26,11 @@ abbrev pub begins_name : Text → Bool
 begins_name [] = not true
 begins_name (c ∷ cs) = is_letter c
 
--- a letter, then letters and digits, 1 to 64 bytes, and no reserved word
+-- a letter, then letters and digits, and no reserved word
 abbrev pub is_name : Text → Bool
-is_name name = begins_name name && (list_all (λ c. is_letter c || is_digit c) name && (nat_le (length name) 64 && not (is_among name reserved)))
+is_name name = begins_name name && (list_all (λ c. is_letter c || is_digit c) name && (nat_le (length name) MOST_NAME && not (is_among name reserved)))
 
--- at most 64 printable bytes
+-- printable bytes, of which there are few enough
 abbrev pub is_text : Text → Bool
 is_text text = nat_le (length text) MOST_TEXT && list_all (is_between 32 126) text
 

@@ -1,5 +1,5 @@
 -- What holds of a table to which entries were only put: no two entries of a part have the same keys and masks, and no part is longer than declared.
-use Rattle.std.specs.Prelude.{◌≡◌, ℕ, ◌≤◌, List, length, slice_get, fold, Option, Some}
+use Rattle.std.specs.Prelude.{◌≡◌, ℕ, ◌≤◌, List, length, slice_get, fold, Some}
 use Rattle.db_model.specs.declared.database.TableDecl.{TableDecl}
 use Rattle.db_model.specs.declared.entry.Entry.{Entry}
 use Rattle.db_model.specs.Table.{Parts, empty, put}

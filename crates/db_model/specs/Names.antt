@@ -1,5 +1,5 @@
 -- Names and where they are declared. A use of a name means its first declaration of the kind that is used; where there is none, its place is the number of declarations, at which nothing stands.
-use Rattle.std.specs.Prelude.{ℕ, zero, suc, Bool, if◌then◌else◌, List, [], ◌∷◌, map, bytes_eq, codes, Option, Some, None}
+use Rattle.std.specs.Prelude.{ℕ, zero, suc, if◌then◌else◌, List, [], ◌∷◌, map, bytes_eq, codes, Option, Some, None}
 use Rattle.db_model.specs.declared.database.Database.{Database}
 use Rattle.db_model.specs.declared.database.TableDecl.{TableDecl}
 

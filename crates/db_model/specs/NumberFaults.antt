@@ -1,5 +1,5 @@
 -- The faults of numbers: one that is out of its limits (43), and a bit field that isn't followed by its like (44).
-use Rattle.std.specs.Prelude.{ℕ, suc, ◌+◌, ◌-◌, ◌%◌, ◌^◌, Bool, true, false, not, ◌||◌, ◌&&◌, if◌then◌else◌, nat_lt, nat_le, ◌==◌, List, [], ◌∷◌, ◌++◌, map, length, drop, Option, Some, None}
+use Rattle.std.specs.Prelude.{ℕ, ◌+◌, ◌%◌, ◌^◌, Bool, false, not, ◌||◌, ◌&&◌, nat_lt, nat_le, ◌==◌, List, [], ◌∷◌, ◌++◌, map, length, drop, Option, Some, None}
 use Rattle.db_model.specs.declared.database.ColumnDecl.{ColumnDecl}
 use Rattle.db_model.specs.declared.database.Database.{Database}
 use Rattle.db_model.specs.declared.database.KeyDecl.{KeyDecl}
@@ -16,8 +16,8 @@ use Rattle.db_model.specs.declared.element.FieldForm.TheVariants as form
 use Rattle.db_model.specs.declared.limits.TheConstants.{MOST_EXACT, MOST_EXACT_OVER_ALL, MOST_MASKED, MOST_KEY_SIZE, MOST_COLUMN_SIZE, MOST_FIXED, MOST_BIT_SIZE, MOST_TOKEN, LEAST_ALIGNMENT, MOST_ALIGNMENT, MOST_DECIMAL_GROUP, MOST_GROUP, MOST_PROTOCOLS, MOST_VARIABLES, MOST_TABLES, MOST_SHOW_TEMPLATES, MOST_SUM_TEMPLATES}
 use Rattle.db_model.specs.Folds.{CaseOf, BranchOf, ElementOf, fold_element}
 use Rattle.db_model.specs.Forms.{is_between}
-use Rattle.db_model.specs.Lines.{Lines, joined, over, over_option, at_line, lines_in}
-use Rattle.db_model.specs.Numbering.{elements_in, fields_in, blocks_in}
+use Rattle.db_model.specs.Lines.{Lines, over, over_option, at_line, lines_in}
+use Rattle.db_model.specs.Numbering.{fields_in, blocks_in}
 
 -- ---- limits
 

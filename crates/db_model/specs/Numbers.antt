@@ -1,5 +1,5 @@
 -- Bytes read as a number and a number written as bytes, the first byte the highest.
-use Rattle.std.specs.Prelude.{ℕ, zero, suc, ◌+◌, ◌*◌, ◌/◌, ◌%◌, ◌^◌, Bool, if◌then◌else◌, nat_eq, ◌==◌, ◌||◌, ◌&&◌, List, [], ◌∷◌, ◌++◌, length, bit_and}
+use Rattle.std.specs.Prelude.{ℕ, zero, suc, ◌+◌, ◌*◌, ◌/◌, ◌%◌, ◌^◌, Bool, if◌then◌else◌, nat_eq, ◌==◌, ◌||◌, List, [], ◌∷◌, ◌++◌, bit_and}
 use Rattle.std.specs.List.{starts_with}
 
 abbrev pub number_from : ℕ → List ℕ → ℕ

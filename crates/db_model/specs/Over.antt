@@ -1,10 +1,10 @@
 -- What a call says that has done a computation over something that answers questions: wholly, or, where memory was refused, up to some prefix of its questions.
-use Rattle.std.specs.Prelude.{◌≡◌, ℕ, List, [], ◌∷◌, ◌++◌, Option, Some, None, Result, Ok, Err}
+use Rattle.std.specs.Prelude.{◌≡◌, ℕ, [], ◌∷◌, ◌++◌, Option, Some, None, Result, Ok, Err}
 use Rattle.db_model.specs.declared.database.Database.{Database}
 use Rattle.db_model.specs.declared.no_memory.NoMemory.{NoMemory}
 use Rattle.db_model.specs.declared.question.Question.{Question}
 use Rattle.db_model.specs.declared.question.Answer.{Answer}
-use Rattle.db_model.specs.Questions.{Asks, Log, Played, play, Step}
+use Rattle.db_model.specs.Questions.{Asks, Log, play, Step}
 use Rattle.db_model.specs.Replay.{after}
 use Rattle.db_model.specs.Session.{Session, ask}
 

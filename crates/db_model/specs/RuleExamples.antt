@@ -1,22 +1,16 @@
 -- Worked examples, each of one rule that is easily got wrong.
-use Rattle.std.specs.Prelude.{◌≡◌, ℕ, zero, suc, false, List, [], ◌∷◌, ◌++◌, codes, Option, Some, None, Result, Ok, Err}
+use Rattle.std.specs.Prelude.{◌≡◌, ℕ, zero, suc, false, List, [], ◌∷◌, ◌++◌, codes, None, Err}
 use Rattle.db_model.specs.declared.database.Protocol.{Protocol}
-use Rattle.db_model.specs.declared.entry.Entry.{Entry}
-use Rattle.db_model.specs.declared.entry.Validity.TheVariants.{UpdateOnHit}
 use Rattle.db_model.specs.declared.env.Env.{Env}
 use Rattle.db_model.specs.declared.env.Frame.{Frame}
-use Rattle.db_model.specs.declared.env.Way.{Way}
 use Rattle.db_model.specs.declared.env.Way.TheVariants.{Stop}
 use Rattle.db_model.specs.declared.expression.Expr as expr
 use Rattle.db_model.specs.declared.expression.Expr.{Expr}
 use Rattle.db_model.specs.declared.packet.Packet.{Packet}
-use Rattle.db_model.specs.declared.question.Answer.TheVariants.{Miss, Hit, Done}
-use Rattle.db_model.specs.declared.tree.Node.{Node}
+use Rattle.db_model.specs.declared.question.Answer.TheVariants.{Hit}
 use Rattle.db_model.specs.declared.tree.Node.TheVariants.{Field, Block, Note}
 use Rattle.db_model.specs.declared.tree.Proto.{Proto}
-use Rattle.db_model.specs.declared.tree.Reason.{Reason}
 use Rattle.db_model.specs.declared.tree.Reason.TheVariants.{Short, Nodes, Protocols, KeySize}
-use Rattle.db_model.specs.declared.value.Value.{Value}
 use Rattle.db_model.specs.declared.value.Value.TheVariants.{Buf}
 use Rattle.db_model.specs.Decoding.{start_env, start}
 use Rattle.db_model.specs.Elements.{list}
@@ -24,7 +18,6 @@ use Rattle.db_model.specs.Examples.{answers, tree_of, at_second, Gives, hit, mis
 use Rattle.db_model.specs.Expression.{val}
 use Rattle.db_model.specs.Numbering.{none}
 use Rattle.db_model.specs.Questions.{play}
-use Rattle.db_model.specs.Runs.{Went}
 use Rattle.db_model.specs.RuleSamples.{broken_loop_db, short_block_db, block_db, block_with_field, self_db, zeros}
 use Rattle.db_model.specs.Samples.{protocol, fields}
 use Rattle.db_model.specs.Serial.{state}

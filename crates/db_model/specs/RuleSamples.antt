@@ -1,5 +1,5 @@
 -- Small databases, each for one rule of decoding.
-use Rattle.std.specs.Prelude.{ℕ, zero, suc, List, [], ◌∷◌, codes, Option, Some, None}
+use Rattle.std.specs.Prelude.{ℕ, zero, suc, List, [], ◌∷◌, codes, None}
 use Rattle.db_model.specs.declared.database.Database.{Database}
 use Rattle.db_model.specs.declared.element.Element as element
 use Rattle.db_model.specs.declared.element.Element.{Element}

@@ -1,5 +1,5 @@
 -- Words with which databases are written down as values, and the smallest samples.
-use Rattle.std.specs.Prelude.{ℕ, true, false, List, [], ◌∷◌, codes, Option, Some, None}
+use Rattle.std.specs.Prelude.{ℕ, List, [], ◌∷◌, codes, Option, Some, None}
 use Rattle.db_model.specs.declared.database.Database.{Database}
 use Rattle.db_model.specs.declared.database.ElementList.{ElementList}
 use Rattle.db_model.specs.declared.database.ExecuteCode.{ExecuteCode}
@@ -8,7 +8,6 @@ use Rattle.db_model.specs.declared.database.NamedBlock.{NamedBlock}
 use Rattle.db_model.specs.declared.database.Protocol.{Protocol}
 use Rattle.db_model.specs.declared.element.Element as element
 use Rattle.db_model.specs.declared.element.Element.{Element}
-use Rattle.db_model.specs.declared.element.Element.TheOpen.{Case-F, Branch-F}
 use Rattle.db_model.specs.declared.element.FieldForm.TheVariants as form
 use Rattle.db_model.specs.declared.expression.Expr as expr
 use Rattle.db_model.specs.declared.expression.Expr.{Expr}

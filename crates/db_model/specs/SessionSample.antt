@@ -1,10 +1,6 @@
 -- A database of Ethernet, IPv4 and TCP, whose sessions are kept in a table: who answers a request is shown as text.
-use Rattle.std.specs.Prelude.{ℕ, true, false, List, [], ◌∷◌, codes, Option, Some, None}
+use Rattle.std.specs.Prelude.{ℕ, true, List, [], ◌∷◌, codes, Some, None}
 use Rattle.db_model.specs.declared.database.Database.{Database}
-use Rattle.db_model.specs.declared.database.ElementList.{ElementList}
-use Rattle.db_model.specs.declared.database.ExecuteCode.{ExecuteCode}
-use Rattle.db_model.specs.declared.database.Format.{Format}
-use Rattle.db_model.specs.declared.database.NamedBlock.{NamedBlock}
 use Rattle.db_model.specs.declared.database.Protocol.{Protocol}
 use Rattle.db_model.specs.declared.database.ShowTemplate.{ShowTemplate}
 use Rattle.db_model.specs.declared.database.ShowType.TheVariants as show_type

@@ -1,5 +1,5 @@
 -- A shaped database: its elements stand where they may, in number and order; its values and expressions have their forms; and each loopctrl stands in a loop. How deep elements stand is no part of it.
-use Rattle.std.specs.Prelude.{◌≡◌, ℕ, Bool, true, false, not, ◌&&◌, ◌||◌, nat_le, List, [], ◌∷◌, length, is_some, Option, Some, None}
+use Rattle.std.specs.Prelude.{ℕ, Bool, true, false, not, ◌&&◌, nat_le, List, [], ◌∷◌, length, is_some, Option, Some, None}
 use Rattle.std.specs.List.{list_all}
 use Rattle.db_model.specs.declared.database.ColumnDecl.{ColumnDecl}
 use Rattle.db_model.specs.declared.database.Database.{Database}

@@ -1,5 +1,5 @@
 -- The five special variables, by their names.
-use Rattle.std.specs.Prelude.{Bool, if◌then◌else◌, bytes_eq, codes, Option, Some, None}
+use Rattle.std.specs.Prelude.{if◌then◌else◌, bytes_eq, codes, Option, Some, None}
 use Rattle.db_model.specs.Names.{Text}
 pub use Rattle.db_model.specs.declared.expression.Special.{Special}
 pub use Rattle.db_model.specs.declared.expression.Special.TheVariants.{Packet, PacketLength, CurrentOffset, ProtoOffset, LinkType}

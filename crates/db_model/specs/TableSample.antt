@@ -1,16 +1,10 @@
 -- A database whose packets add to one table and look in it: an operation, a key and a value, of one byte each.
 use Rattle.std.specs.Prelude.{ℕ, true, false, List, [], ◌∷◌, codes, Option, Some, None}
 use Rattle.db_model.specs.declared.database.Database.{Database}
-use Rattle.db_model.specs.declared.database.ElementList.{ElementList}
-use Rattle.db_model.specs.declared.database.ExecuteCode.{ExecuteCode}
-use Rattle.db_model.specs.declared.database.Format.{Format}
-use Rattle.db_model.specs.declared.database.NamedBlock.{NamedBlock}
-use Rattle.db_model.specs.declared.database.Protocol.{Protocol}
 use Rattle.db_model.specs.declared.database.TableDecl.{TableDecl}
 use Rattle.db_model.specs.declared.element.Element as element
 use Rattle.db_model.specs.declared.element.Element.{Element}
 use Rattle.db_model.specs.declared.element.LoopKind.TheVariants as kind
-use Rattle.db_model.specs.declared.element.UpdateKey.{UpdateKey}
 use Rattle.db_model.specs.declared.entry.Validity.{Validity}
 use Rattle.db_model.specs.declared.entry.Validity.TheVariants.{Forever, MaxTime, UpdateOnHit, AddOnHit}
 use Rattle.db_model.specs.declared.expression.Expr as expr

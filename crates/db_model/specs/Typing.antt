@@ -1,5 +1,5 @@
 -- The type of an expression in a protocol, or why it has none.
-use Rattle.std.specs.Prelude.{ℕ, Bool, true, false, not, ◌&&◌, ◌||◌, if◌then◌else◌, ◌==◌, List, [], ◌∷◌, map, length, slice_get, bytes_eq, Option, Some, None, Result, Ok, Err}
+use Rattle.std.specs.Prelude.{ℕ, Bool, true, false, not, ◌&&◌, ◌||◌, if◌then◌else◌, ◌==◌, List, [], map, length, slice_get, bytes_eq, Option, Some, None, Result, Ok, Err}
 use Rattle.std.specs.List.{list_any, list_all}
 use Rattle.db_model.specs.declared.database.ColumnDecl.{ColumnDecl}
 use Rattle.db_model.specs.declared.database.Database.{Database}

@@ -1,9 +1,9 @@
-ghost use Rattle.std.specs.Prelude.{◌≡◌, IfOk, None, true};
+ghost use Rattle.std.specs.Prelude.{◌≡◌, ◌≤◌, length, IfOk, None, true};
 ghost use Rattle.db_model.specs.Bare.{bare};
 ghost use Rattle.db_model.specs.Objection.{IsChecked, objection};
 ghost use Rattle.db_model.specs.Shape.{is_shaped};
 
-use crate::{Database, Name, NoMemory, Protocol};
+use crate::{Database, MOST_PROTOCOLS, MOST_TABLES, MOST_VARIABLES, Name, NoMemory, Protocol};
 use sqlite_items::Items;
 use std::alloc::Global;
 use std::marker::Model;
@@ -71,6 +71,9 @@ impl CheckedDb {
     pub fn database(&self) -> &Database
         ensures database { result.now ≡ self.now }
         ensures checked { IsChecked self.now }
+        ensures protocols { length self.now.protocols ≤ MOST_PROTOCOLS }
+        ensures variables { length self.now.variables ≤ MOST_VARIABLES }
+        ensures tables { length self.now.tables ≤ MOST_TABLES }
     {
         &self.database
     }

@@ -1,8 +1,10 @@
-ghost use Rattle.std.specs.Prelude.{◌≡◌, map};
+ghost use Rattle.std.specs.Prelude.{◌≡◌, ◌≤◌, length, map, Some};
 ghost use Rattle.db_model.specs.Names.{place, protocol_at, variable_at, table_at, column_at};
-ghost use Rattle.std.specs.Prelude.{Some};
 
-use crate::{ColumnDecl, Database, KeyDecl, NamedBlock, Protocol, SectionDecl, ShowTemplate, SumTemplate, TableDecl, VarDecl};
+use crate::{
+    ColumnDecl, Database, KeyDecl, NamedBlock, Protocol, SectionDecl, ShowTemplate, SumTemplate,
+    TableDecl, VarDecl,
+};
 
 /// What is declared under a name.
 pub trait Declaration {
@@ -88,7 +90,8 @@ impl Declaration for NamedBlock {
 
 /// The place of the first declaration of this name, or how many there are where none has it.
 pub fn place_of<T: Declaration>(name: &[u8], declarations: &[T]) -> usize
-    ensures { result ≡ place name.now (map T.named declarations.now) }
+    ensures place { result ≡ place name.now (map T.named declarations.now) }
+    ensures within { result ≤ length declarations.now }
 {
     for (i, declaration) in declarations.iter().enumerate() {
         if name == declaration.name() {
@@ -101,21 +104,24 @@ pub fn place_of<T: Declaration>(name: &[u8], declarations: &[T]) -> usize
 impl Database {
     /// The number of the first protocol of this name, or how many there are where none has it.
     pub fn protocol_at(&self, name: &[u8]) -> usize
-        ensures { result ≡ protocol_at self.now name.now }
+        ensures place { result ≡ protocol_at self.now name.now }
+        ensures within { result ≤ length self.now.protocols }
     {
         place_of(name, self.protocols.as_slice())
     }
 
     /// The same for variables. The name stands without the `$`.
     pub fn variable_at(&self, name: &[u8]) -> usize
-        ensures { result ≡ variable_at self.now name.now }
+        ensures place { result ≡ variable_at self.now name.now }
+        ensures within { result ≤ length self.now.variables }
     {
         place_of(name, self.variables.as_slice())
     }
 
     /// The same for tables.
     pub fn table_at(&self, name: &[u8]) -> usize
-        ensures { result ≡ table_at self.now name.now }
+        ensures place { result ≡ table_at self.now name.now }
+        ensures within { result ≤ length self.now.tables }
     {
         place_of(name, self.tables.as_slice())
     }
@@ -124,7 +130,8 @@ impl Database {
 impl TableDecl {
     /// The same for the data columns of a table.
     pub fn column_at(&self, name: &[u8]) -> usize
-        ensures { result ≡ column_at (Some self.now) name.now }
+        ensures place { result ≡ column_at (Some self.now) name.now }
+        ensures within { result ≤ length self.now.columns }
     {
         place_of(name, self.columns.as_slice())
     }

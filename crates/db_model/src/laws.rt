@@ -55,8 +55,7 @@ pub fn table_keeps()
 /// A question that fits leaves a session that fits, and the row of its hit fits.
 pub fn fits_stay()
     ensures { FitsStay }
-{
-}
+{}
 
 /// Leaving questions open says the same as carrying session and log through the state.
 pub fn carries_state<S, A, B>()

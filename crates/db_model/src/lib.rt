@@ -23,37 +23,107 @@ mod table;
 mod tree;
 mod value;
 
-pub use bytes::{Bytes, Bytes64, MOST_BYTES};
+pub use bytes::Bytes;
+pub use bytes::Bytes64;
+pub use bytes::MOST_BYTES;
 pub use checked::CheckedDb;
-pub use database::{
-    ColumnDecl, Database, ElementList, ExecuteCode, Format, HeaderPart, KeyDecl, NamedBlock,
-    Protocol, SectionDecl, ShowTemplate, ShowType, SumItem, SumStruct, SumTemplate, TableDecl,
-    VarDecl, VarValidity,
-};
-pub use declaration::{Declaration, place_of};
-pub use element::{
-    Branch, Case, Element, FieldForm, LoopControl, LoopKind, UpdateKey, UpdateValue,
-};
-pub use entry::{Entry, NewEntry, Validity};
-pub use env::{Env, FieldValues, Frame, HitRows, Way};
-pub use expression::{Expr, Literal, Operator, Special, TypeFault};
-pub use field_kind::{CaseRange, FieldKind};
-pub use limits::{
-    GREATEST_NUMBER, LEAST_ALIGNMENT, MOST_ALIGNMENT, MOST_BIT_SIZE, MOST_COLUMN_SIZE,
-    MOST_COLUMNS, MOST_DECIMAL_GROUP, MOST_ENTERED, MOST_EXACT, MOST_EXACT_OVER_ALL,
-    MOST_EXPRESSION_DEPTH, MOST_EXPRESSION_NODES, MOST_FIXED, MOST_GROUP, MOST_KEY_SIZE, MOST_KEYS,
-    MOST_MASKED, MOST_NESTED, MOST_NODES, MOST_NUMBER_BYTES, MOST_PROTOCOLS, MOST_QUESTIONS,
-    MOST_SECTIONS, MOST_SEPARATOR, MOST_SHOW_TEMPLATES, MOST_SUM_TEMPLATES, MOST_TABLES, MOST_TEXT,
-    MOST_TOKEN, MOST_TURNS, MOST_VARIABLES, PAYLOAD, SECOND, STAMP_END,
-};
-pub use names::{MOST_NAME, Name, Word};
+pub use database::ColumnDecl;
+pub use database::Database;
+pub use database::ElementList;
+pub use database::ExecuteCode;
+pub use database::Format;
+pub use database::HeaderPart;
+pub use database::KeyDecl;
+pub use database::NamedBlock;
+pub use database::Protocol;
+pub use database::SectionDecl;
+pub use database::ShowTemplate;
+pub use database::ShowType;
+pub use database::SumItem;
+pub use database::SumStruct;
+pub use database::SumTemplate;
+pub use database::TableDecl;
+pub use database::VarDecl;
+pub use database::VarValidity;
+pub use declaration::Declaration;
+pub use declaration::place_of;
+pub use element::Branch;
+pub use element::Case;
+pub use element::Element;
+pub use element::FieldForm;
+pub use element::LoopControl;
+pub use element::LoopKind;
+pub use element::UpdateKey;
+pub use element::UpdateValue;
+pub use entry::Entry;
+pub use entry::NewEntry;
+pub use entry::Validity;
+pub use env::Env;
+pub use env::FieldValues;
+pub use env::Frame;
+pub use env::HitRows;
+pub use env::Way;
+pub use expression::Expr;
+pub use expression::Literal;
+pub use expression::Operator;
+pub use expression::Special;
+pub use expression::TypeFault;
+pub use field_kind::CaseRange;
+pub use field_kind::FieldKind;
+pub use limits::GREATEST_NUMBER;
+pub use limits::LEAST_ALIGNMENT;
+pub use limits::MOST_ALIGNMENT;
+pub use limits::MOST_BIT_SIZE;
+pub use limits::MOST_COLUMN_SIZE;
+pub use limits::MOST_COLUMNS;
+pub use limits::MOST_DECIMAL_GROUP;
+pub use limits::MOST_ENTERED;
+pub use limits::MOST_EXACT;
+pub use limits::MOST_EXACT_OVER_ALL;
+pub use limits::MOST_EXPRESSION_DEPTH;
+pub use limits::MOST_EXPRESSION_NODES;
+pub use limits::MOST_FIXED;
+pub use limits::MOST_GROUP;
+pub use limits::MOST_KEY_SIZE;
+pub use limits::MOST_KEYS;
+pub use limits::MOST_MASKED;
+pub use limits::MOST_NESTED;
+pub use limits::MOST_NODES;
+pub use limits::MOST_NUMBER_BYTES;
+pub use limits::MOST_PROTOCOLS;
+pub use limits::MOST_QUESTIONS;
+pub use limits::MOST_SECTIONS;
+pub use limits::MOST_SEPARATOR;
+pub use limits::MOST_SHOW_TEMPLATES;
+pub use limits::MOST_SUM_TEMPLATES;
+pub use limits::MOST_TABLES;
+pub use limits::MOST_TEXT;
+pub use limits::MOST_TOKEN;
+pub use limits::MOST_TURNS;
+pub use limits::MOST_VARIABLES;
+pub use limits::PAYLOAD;
+pub use limits::SECOND;
+pub use limits::STAMP_END;
+pub use names::MOST_NAME;
+pub use names::Name;
+pub use names::Word;
 pub use no_memory::NoMemory;
-pub use packet::{Packet, Stamp};
-pub use question::{Answer, Answers, Question};
+pub use packet::Packet;
+pub use packet::Stamp;
+pub use question::Answer;
+pub use question::Answers;
+pub use question::Question;
 pub use sequence::Sequence;
 pub use table::Table;
-pub use tree::{Node, Nodes, PacketTree, Proto, Reason};
-pub use value::{Keys, Row, Ty, Value};
+pub use tree::Node;
+pub use tree::Nodes;
+pub use tree::PacketTree;
+pub use tree::Proto;
+pub use tree::Reason;
+pub use value::Keys;
+pub use value::Row;
+pub use value::Ty;
+pub use value::Value;
 
 #[cfg(test)]
 mod tests;

@@ -86,3 +86,38 @@ fn the_smallest_database_is_checked(rt: HostRuntime) -> Result<(), Fail> {
     }
     Ok(())
 }
+
+#[test]
+fn a_decoding_begins_with_full_budgets(rt: HostRuntime) -> Result<(), Fail> {
+    let alloc = rt.alloc();
+    let bare = CheckedDb::bare(alloc)?;
+    let packet = Packet {
+        number: 0,
+        link: 1,
+        stamp: 7,
+        length: 60,
+        bytes: Bytes::copy_of(alloc, b"abc")?,
+    };
+    let env = Env::start(alloc, &bare, &packet)?;
+    assert_eq!(rt; env.limit, 3);
+    assert_eq!(rt; env.turns, 4096);
+    assert_eq!(rt; env.questions, 1024);
+    assert_eq!(rt; env.vars.len(), 0);
+    assert_eq!(rt; env.hits.len(), 0);
+    assert_eq!(rt; env.present.len(), 0);
+    assert_eq!(rt; env.packet.bytes, packet.bytes);
+    Ok(())
+}
+
+#[test]
+fn declarations_are_found_by_their_names(rt: HostRuntime) -> Result<(), Fail> {
+    let alloc = rt.alloc();
+    let bare = CheckedDb::bare(alloc)?;
+    let database = bare.database();
+    assert_eq!(rt; database.protocol_at(b"startproto"), 0);
+    assert_eq!(rt; database.protocol_at(b"ip"), 1);
+    assert_eq!(rt; database.variable_at(b"src"), 0);
+    assert_eq!(rt; database.table_at(b"sessions"), 0);
+    assert_eq!(rt; place_of(b"ip", database.protocols.as_slice()), 1);
+    Ok(())
+}
