@@ -8,7 +8,7 @@ use std::marker::Model;
 pub const MOST_BYTES: usize = 262_144;
 
 /// At most `MOST_BYTES` bytes, seen as their list.
-#[derive(Debug, Drop)]
+#[derive(Clone, Debug, Drop)]
 pub struct Bytes {
     bytes: Vec<u8>,
 }
@@ -21,6 +21,20 @@ impl Model for Bytes {
     ghost view = { λ b. b.bytes.items };
 
     ghost invariant = { λ b. length b.bytes.items ≤ 262144 };
+}
+
+impl PartialEq for Bytes {
+    ghost use Rattle.std.specs.Prelude.{bytes_eq};
+    ghost use Rattle.std.specs.Cmp.Rules.{comparing};
+    ghost use Rattle.std.proofs.Common.{rules};
+
+    ghost eq = { bytes_eq };
+
+    ghost laws = { Prim.search (comparing, rules) };
+
+    fn eq(&self, other: &Bytes) -> bool {
+        self.bytes.as_slice() == other.bytes.as_slice()
+    }
 }
 
 impl Bytes {

@@ -1,0 +1,14 @@
+pub mod Play
+pub mod Over
+pub mod Replay
+pub mod Serial
+pub mod Kept
+pub mod LawsHold
+pub mod BareDb
+pub mod Accepted
+pub mod Includes
+pub mod Worked
+pub mod Judged
+pub mod Rules
+pub mod Layers
+pub mod Fitted

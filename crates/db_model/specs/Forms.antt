@@ -1,0 +1,95 @@
+-- The forms of names, texts and expressions.
+use Rattle.std.specs.Prelude.{ℕ, ◌+◌, max, Bool, true, ◌&&◌, nat_le, List, sum, fold, length, Option, Some, None}
+use Rattle.std.specs.List.{list_all}
+use Rattle.db_model.specs.declared.expression.Expr.{Expr, Expr-F}
+use Rattle.db_model.specs.declared.expression.Expr.TheOpen as layer
+use Rattle.db_model.specs.declared.limits.TheConstants.{MOST_TEXT, MOST_NUMBER_BYTES, MOST_EXPRESSION_NODES, MOST_EXPRESSION_DEPTH}
+use Rattle.db_model.specs.Folds.{fold_expr}
+use Rattle.db_model.specs.Name.{is_name}
+use Rattle.db_model.specs.Names.{Text}
+
+abbrev pub is_between : ℕ → ℕ → ℕ → Bool
+is_between low high n = nat_le low n && nat_le n high
+
+-- printable bytes, of which there are few enough
+abbrev pub is_text : Text → Bool
+is_text text = nat_le (length text) MOST_TEXT && list_all (is_between 32 126) text
+
+abbrev pub if_there : {A : Type 0} → (A → Bool) → Option A → Bool
+if_there test None = true
+if_there test (Some a) = test a
+
+-- ---- expressions
+
+-- the nodes: numbers, texts, names, operators, slices and calls
+abbrev pub nodes_step : Expr-F ℕ → ℕ
+nodes_step (layer.Number n) = 1
+nodes_step (layer.Text b) = 1
+nodes_step (layer.Protocol name) = 1
+nodes_step (layer.Field name) = 1
+nodes_step (layer.Variable name) = 1
+nodes_step (layer.Column table column) = 1
+nodes_step (layer.Not a) = 1 + a
+nodes_step (layer.And a b) = 1 + (a + b)
+nodes_step (layer.Or a b) = 1 + (a + b)
+nodes_step (layer.Binary o a b) = 1 + (a + b)
+nodes_step (layer.Slice a b c) = 1 + (a + (b + c))
+nodes_step (layer.ToNumber a) = 1 + a
+nodes_step (layer.LengthOf a) = 1 + a
+nodes_step (layer.ToBytes a size) = 1 + a
+nodes_step (layer.HasText a text) = 1 + a
+nodes_step (layer.IsPresent name) = 1
+nodes_step (layer.LookUp table renew ks) = 1 + sum ks
+
+abbrev pub nodes_of : Expr → ℕ
+nodes_of = fold_expr ℕ nodes_step
+
+abbrev pub deepest : List ℕ → ℕ
+deepest ns = fold max 0 ns
+
+-- the depth: 1 for one node alone
+abbrev pub depth_step : Expr-F ℕ → ℕ
+depth_step (layer.Number n) = 1
+depth_step (layer.Text b) = 1
+depth_step (layer.Protocol name) = 1
+depth_step (layer.Field name) = 1
+depth_step (layer.Variable name) = 1
+depth_step (layer.Column table column) = 1
+depth_step (layer.Not a) = 1 + a
+depth_step (layer.And a b) = 1 + max a b
+depth_step (layer.Or a b) = 1 + max a b
+depth_step (layer.Binary o a b) = 1 + max a b
+depth_step (layer.Slice a b c) = 1 + max a (max b c)
+depth_step (layer.ToNumber a) = 1 + a
+depth_step (layer.LengthOf a) = 1 + a
+depth_step (layer.ToBytes a size) = 1 + a
+depth_step (layer.HasText a text) = 1 + a
+depth_step (layer.IsPresent name) = 1
+depth_step (layer.LookUp table renew ks) = 1 + deepest ks
+
+abbrev pub depth_of : Expr → ℕ
+depth_of = fold_expr ℕ depth_step
+
+-- the names have their form, and a number is written as 1 to 4 bytes
+abbrev pub form_step : Expr-F Bool → Bool
+form_step (layer.Number n) = true
+form_step (layer.Text b) = true
+form_step (layer.Protocol name) = is_name name
+form_step (layer.Field name) = is_name name
+form_step (layer.Variable name) = is_name name
+form_step (layer.Column table column) = is_name table && is_name column
+form_step (layer.Not a) = a
+form_step (layer.And a b) = a && b
+form_step (layer.Or a b) = a && b
+form_step (layer.Binary o a b) = a && b
+form_step (layer.Slice a b c) = a && (b && c)
+form_step (layer.ToNumber a) = a
+form_step (layer.LengthOf a) = a
+form_step (layer.ToBytes a size) = is_between 1 MOST_NUMBER_BYTES size && a
+form_step (layer.HasText a text) = a
+form_step (layer.IsPresent name) = is_name name
+form_step (layer.LookUp table renew ks) = is_name table && list_all (λ b. b) ks
+
+-- an expression of the grammar within its limits
+unfoldable pub is_expression : Expr → Bool
+is_expression e = fold_expr Bool form_step e && (nat_le (nodes_of e) MOST_EXPRESSION_NODES && nat_le (depth_of e) MOST_EXPRESSION_DEPTH)

@@ -1,0 +1,73 @@
+-- The laws of the definitions, each in the words of its subject.
+use Rattle.std.specs.Prelude.{◌≡◌, ℕ, suc, Bool, true, ◌+◌, ◌≤◌, List, [], ◌∷◌, ◌++◌, length, drop, slice_get, ◌↔◌, Some, None}
+use Rattle.db_model.specs.declared.database.Database.{Database}
+use Rattle.db_model.specs.declared.database.Protocol.{Protocol}
+use Rattle.db_model.specs.declared.database.TableDecl.{TableDecl}
+use Rattle.db_model.specs.declared.entry.Entry.{Entry}
+use Rattle.db_model.specs.declared.entry.NewEntry.{NewEntry}
+use Rattle.db_model.specs.declared.limits.TheConstants.{MOST_NESTED}
+use Rattle.db_model.specs.declared.packet.Packet.{Packet}
+use Rattle.db_model.specs.declared.question.Question.{Question}
+use Rattle.db_model.specs.Chain.{elements_of}
+use Rattle.db_model.specs.Decoding.{dec}
+use Rattle.db_model.specs.Elements.{list_within}
+use Rattle.db_model.specs.Fitting.{question_fits, session_fits, answer_fits, table_of}
+use Rattle.db_model.specs.Kept.{Kept, made_by_put}
+use Rattle.db_model.specs.Objection.{IsChecked}
+use Rattle.db_model.specs.Questions.{Gives, Asking, Log, Step, pure, ◌then◌, State, from}
+use Rattle.db_model.specs.Replay.{after, Agrees, differs}
+use Rattle.db_model.specs.Serial.{state, decoded_at}
+use Rattle.db_model.specs.Session.{Session, ask}
+use Rattle.db_model.specs.Table.{Parts, KeyList, add, look}
+
+-- unchanged answers, unchanged decoding: where the log of the one agrees with the other session, decoding from there gives the same tree and log, and the session that the log leaves there
+abbrev pub UnchangedDecoding : Type 0
+UnchangedDecoding = (db : Database) (p : Packet) (s s' : Session) → Agrees db p.stamp (dec db p s).log s' → dec db p s' ≡ record (dec db p s) { session = after db p.stamp (dec db p s).log s' }
+
+-- the same for any computation, at two states that differ in their session alone: what it adds to the log is asked again
+abbrev pub UnchangedComputation : Type 0 → Type 0 → Type 0
+UnchangedComputation S A = (db : Database) (t : ℕ) (f : Step S A) (z : State S) (s' : Session) (m : Log)
+    → (from db t f z).1.log ≡ z.log ++ m → Agrees db t m s' → from db t f (record z { session = s' }) ≡ ((from db t f z).0, record (from db t f z).1 { session = after db t m s' })
+
+-- the first answer that isn't the noted one is none exactly where the log agrees
+abbrev pub DiffersNowhere : Type 0
+DiffersNowhere = (db : Database) (t : ℕ) (l : Log) (s : Session) → (differs db t l s ≡ None) ↔ Agrees db t l s
+
+-- a log in two parts agrees exactly where each does in its place
+abbrev pub AgreesInParts : Type 0
+AgreesInParts = (db : Database) (t : ℕ) (l m : Log) (s : Session) → Agrees db t (l ++ m) s ↔ (Agrees db t l s × Agrees db t m (after db t l s))
+
+-- the session of a decoding is the one that its log leaves, and its log agrees with the session from which it was decoded
+abbrev pub SessionOfDecoding : Type 0
+SessionOfDecoding = (db : Database) (p : Packet) (s : Session) → ((dec db p s).session ≡ after db p.stamp (dec db p s).log s) × Agrees db p.stamp (dec db p s).log s
+
+-- the decodings from the packet at place m on are those from the state of m
+abbrev pub SerialFrom : Type 0
+SerialFrom = (db : Database) (s : Session) (ps : List Packet) (m k : ℕ) → (state db (state db s ps m) (drop m ps) k ≡ state db s ps (m + k)) × (decoded_at db (state db s ps m) (drop m ps) k ≡ decoded_at db s ps (m + k))
+
+-- more packets behind the first ones don't change these
+abbrev pub SerialFront : Type 0
+SerialFront = (db : Database) (s : Session) (ps qs : List Packet) (k : ℕ) → k ≤ length ps → state db s (ps ++ qs) k ≡ state db s ps k
+
+-- the levels of included blocks are enough: in a checked database one more changes nothing
+abbrev pub IncludesEnd : Type 0
+IncludesEnd = (db : Database) (q : ℕ) (p : Protocol) → IsChecked db → slice_get db.protocols q ≡ Some p → list_within db p MOST_NESTED (elements_of p) ≡ list_within db p (suc MOST_NESTED) (elements_of p)
+
+-- in a table to which entries were only put, no two of a part have the same keys and masks, and the declared lengths hold
+abbrev pub PutKeeps : Type 0
+PutKeeps = (d : TableDecl) (es : List Entry) → Kept d (made_by_put d es)
+
+-- an addition and a look-up keep that
+pub record TableKeeps : Type 0 where
+  pub added : (d : TableDecl) (t : Parts) (n : NewEntry) (now : ℕ) → Kept d t → Kept d (add d t n now)
+  pub looked : (d : TableDecl) (t : Parts) (keys : KeyList) (renew : Bool) (now : ℕ) → Kept d t → Kept d (look d t keys renew now).1
+
+-- a question that fits leaves a session that fits, and the row of its hit fits
+abbrev pub FitsStay : Type 0
+FitsStay = (db : Database) (s : Session) (q : Question) (t : ℕ) → session_fits db s ≡ true → question_fits db q ≡ true → answer_fits db (slice_get db.tables (table_of q)) (ask db s q t).0 × (session_fits db (ask db s q t).1 ≡ true)
+
+-- a computation that leaves its questions open says the same as one that carries session and log through its state: a result leaves the state, one computation after another is the one after the other on whole states, and a question is answered by the session, with its pair behind the log
+pub record CarriesState (S A B : Type 0) : Type 0 where
+  pub result : (db : Database) (t : ℕ) (a : A) (z : State S) → from db t (pure a) z ≡ (a, record z { log = z.log ++ [] })
+  pub one_after_another : (db : Database) (t : ℕ) (p : Step S A) (f : A → Step S B) (z : State S) → from db t (p then f) z ≡ from db t (f (from db t p z).0) (from db t p z).1
+  pub question : (db : Database) (t : ℕ) (q : Question) (z : State S) → from db t (λ x. Asking q (λ a. Gives (a, x))) z ≡ ((ask db z.session q t).0, record z { session = (ask db z.session q t).1; log = z.log ++ (q, (ask db z.session q t).0) ∷ [] })

@@ -1,0 +1,128 @@
+ghost use Rattle.std.specs.Prelude.{◌≡◌};
+ghost use Rattle.db_model.specs.Special.{special};
+
+use crate::{Bytes, Name};
+use sqlite_items::{Boxed, Items};
+
+/// The operators that evaluate both sides.
+#[derive(Clone, Copy, Debug, PartialEq, Eq)]
+pub enum Operator {
+    Add,
+    Sub,
+    Mul,
+    Div,
+    Mod,
+    BitAnd,
+    BitOr,
+    Lt,
+    Le,
+    Gt,
+    Ge,
+    Eq,
+    Ne,
+}
+
+/// The variables that are not declared and that nothing sets.
+#[derive(Clone, Copy, Debug, PartialEq, Eq)]
+pub enum Special {
+    /// `$packet`, the captured bytes.
+    Packet,
+    /// `$packetlength`, how many they are.
+    PacketLength,
+    /// `$currentoffset`, the position.
+    CurrentOffset,
+    /// `$protooffset`, the position at which the protocol began.
+    ProtoOffset,
+    /// `$linktype`
+    LinkType,
+}
+
+impl Special {
+    /// Which special variable the name, without its `$`, is.
+    pub fn of(name: &[u8]) -> Option<Special>
+        ensures { result ≡ special name.now }
+    {
+        if name == b"packet".as_slice() {
+            Some(Special::Packet)
+        } else if name == b"packetlength".as_slice() {
+            Some(Special::PacketLength)
+        } else if name == b"currentoffset".as_slice() {
+            Some(Special::CurrentOffset)
+        } else if name == b"protooffset".as_slice() {
+            Some(Special::ProtoOffset)
+        } else if name == b"linktype".as_slice() {
+            Some(Special::LinkType)
+        } else {
+            None
+        }
+    }
+}
+
+/// An expression as it is written, parentheses aside.
+#[derive(Debug, Drop)]
+pub enum Expr {
+    Number(u32),
+    Text(Bytes),
+    /// `#name`
+    Protocol(Name),
+    /// A bare name: the field that was decoded last under it.
+    Field(Name),
+    /// `$name`, a special variable included.
+    Variable(Name),
+    /// `$table.column`, of the row that was last hit in the table.
+    Column {
+        table: Name,
+        column: Name,
+    },
+    Not(Boxed<Expr>),
+    And(Boxed<Expr>, Boxed<Expr>),
+    Or(Boxed<Expr>, Boxed<Expr>),
+    Binary(Operator, Boxed<Expr>, Boxed<Expr>),
+    /// `base[from:count]`
+    Slice {
+        base: Boxed<Expr>,
+        from: Boxed<Expr>,
+        count: Boxed<Expr>,
+    },
+    /// `buf2int(bytes)`
+    ToNumber(Boxed<Expr>),
+    /// `buflen(bytes)`
+    LengthOf(Boxed<Expr>),
+    /// `int2buf(value,size)`
+    ToBytes {
+        value: Boxed<Expr>,
+        size: u32,
+    },
+    /// `hasstring(within,text)`
+    HasText {
+        within: Boxed<Expr>,
+        text: Bytes,
+    },
+    /// `ispresent(name)`
+    IsPresent(Name),
+    /// `checklookuptable(table,..)`, and `checkupdatelookuptable(table,..)`, which renews.
+    LookUp {
+        table: Name,
+        renew: bool,
+        keys: Items<Expr>,
+    },
+}
+
+/// An expression that is one number, one text or one protocol.
+#[derive(Debug, Drop)]
+pub enum Literal {
+    Number(u32),
+    Text(Bytes),
+    Protocol(Name),
+}
+
+/// Why an expression has no type. A name that isn't declared comes first, then a wrong number of keys.
+#[derive(Clone, Copy, Debug, PartialEq, Eq)]
+pub enum TypeFault {
+    /// It names something that isn't declared.
+    Undeclared,
+    /// The types of its parts don't fit.
+    Mistyped,
+    /// It has a look-up with a wrong number of keys.
+    Arity,
+}

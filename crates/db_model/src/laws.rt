@@ -1,0 +1,63 @@
+//! The laws of the definitions, each the contract of a function that does nothing.
+
+ghost use Rattle.db_model.specs.Laws.{UnchangedDecoding, UnchangedComputation, DiffersNowhere, AgreesInParts, SessionOfDecoding, SerialFrom, SerialFront, IncludesEnd, PutKeeps, TableKeeps, FitsStay, CarriesState};
+
+/// Where the log of a decoding agrees with another session, decoding from there gives the same tree and log.
+pub fn unchanged_decoding()
+    ensures { UnchangedDecoding }
+{}
+
+/// The same for any computation, at two states that differ in their session alone.
+pub fn unchanged_computation<S, A>()
+    ensures { UnchangedComputation S A }
+{}
+
+/// `differs` is none exactly where a log agrees.
+pub fn differs_nowhere()
+    ensures { DiffersNowhere }
+{}
+
+/// A log in two parts agrees exactly where each does in its place.
+pub fn agrees_in_parts()
+    ensures { AgreesInParts }
+{}
+
+/// The session of a decoding is the one that its log leaves.
+pub fn session_of_decoding()
+    ensures { SessionOfDecoding }
+{}
+
+/// The states from a later one on are those that start with it.
+pub fn serial_from()
+    ensures { SerialFrom }
+{}
+
+/// More packets behind the first ones don't change the states of these.
+pub fn serial_front()
+    ensures { SerialFront }
+{}
+
+/// In a checked database one more level of included blocks changes nothing.
+pub fn includes_end()
+    ensures { IncludesEnd }
+{}
+
+/// Putting entries keeps their keys and masks apart, and the declared lengths.
+pub fn put_keeps()
+    ensures { PutKeeps }
+{}
+
+/// An addition and a look-up keep that.
+pub fn table_keeps()
+    ensures { TableKeeps }
+{}
+
+/// A question that fits leaves a session that fits, and the row of its hit fits.
+pub fn fits_stay()
+    ensures { FitsStay }
+{}
+
+/// Leaving questions open says the same as carrying session and log through the state.
+pub fn carries_state<S, A, B>()
+    ensures { CarriesState S A B }
+{}
