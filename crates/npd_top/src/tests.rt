@@ -1,6 +1,7 @@
 use super::*;
 use db_model::NoMemory;
-use npd_host::{CallKind, MemHost};
+use npd_host::{CallKind, Host, MemHost};
+use pcap_in::{CapReader, Next};
 use std::alloc::Global;
 use std::test::Fail;
 
@@ -309,5 +310,110 @@ fn each_answer_to_a_failing_call(rt: HostRuntime) -> Result<(), Fail> {
         Status::NoMemory.line(alloc)?.as_slice(),
         b"npd: no memory\n".as_slice()
     );
+    Ok(())
+}
+
+/// A database of protocols without fields, each of which names the next one, and the last the first.
+fn ring(alloc: Global, count: u32) -> Result<String, NoMemory> {
+    let mut text = String::from_str(alloc, "<netpdl>\n<protocol name=\"startproto\">")?;
+    for number in 1..count {
+        let line = format!(in alloc;
+            "<encapsulation><nextproto proto=\"#p{number}\"/></encapsulation></protocol>\n<protocol name=\"p{number}\">"
+        )?;
+        text.push_str(&line)?;
+    }
+    text.push_str(
+        "<encapsulation><nextproto proto=\"#startproto\"/></encapsulation></protocol>\n</netpdl>\n",
+    )?;
+    Ok(text)
+}
+
+#[test]
+fn the_33rd_protocol_is_a_note(rt: HostRuntime) -> Result<(), Fail> {
+    let alloc = rt.alloc();
+    let mut wanted = String::from_str(alloc, OPENING)?;
+    wanted.push_str("<packet number=\"0\" caplen=\"1\" length=\"1\" timestamp=\"0.000000000\">\n")?;
+    wanted.push_str("<proto name=\"startproto\" pos=\"0\" size=\"0\">\n")?;
+    for number in 1..32 {
+        let proto = format!(in alloc;
+            "</proto>\n<proto name=\"p{number}\" pos=\"0\" size=\"0\">\n"
+        )?;
+        wanted.push_str(&proto)?;
+    }
+    wanted.push_str("<note reason=\"protocols\" pos=\"0\"/>\n</proto>\n")?;
+    wanted.push_str("<proto name=\"payload\" pos=\"0\" size=\"1\">\n")?;
+    wanted.push_str(
+        "<field name=\"data\" pos=\"0\" size=\"1\" value=\"07\" show=\".\"/>\n</proto>\n</packet>\n</pdml>\n",
+    )?;
+    let came = all_done(alloc, &ring(alloc, 300)?, &[b"\x07"], 65_536)?;
+    assert_eq!(rt; came.status, Status::Done);
+    assert_eq!(rt; text_of(alloc, &came)?.as_slice(), wanted.as_bytes());
+    Ok(())
+}
+
+/// A database whose one protocol has so many fields of one byte, and names itself as the next one.
+fn many_fields(alloc: Global, count: u32) -> Result<String, NoMemory> {
+    let mut text = String::from_str(
+        alloc,
+        "<netpdl>\n<protocol name=\"startproto\"><format><fields>",
+    )?;
+    for _ in 0..count {
+        text.push_str("<field name=\"f\" type=\"fixed\" size=\"1\"/>")?;
+    }
+    text.push_str(
+        "</fields></format><encapsulation><nextproto proto=\"#startproto\"/></encapsulation></protocol>\n</netpdl>\n",
+    )?;
+    Ok(text)
+}
+
+#[test]
+fn the_16_385th_field_is_a_note(rt: HostRuntime) -> Result<(), Fail> {
+    let alloc = rt.alloc();
+    let end = "<proto name=\"startproto\" pos=\"16384\" size=\"0\">\n\
+<note reason=\"nodes\" pos=\"16384\"/>\n\
+</proto>\n\
+<proto name=\"payload\" pos=\"16384\" size=\"2\">\n\
+<field name=\"data\" pos=\"16384\" size=\"2\" value=\"0000\" show=\"..\"/>\n\
+</proto>\n\
+</packet>\n\
+</pdml>\n";
+    let packet = vec![in alloc; 0u8; 16_386]?;
+    let came = all_done(
+        alloc,
+        &many_fields(alloc, 1_024)?,
+        &[packet.as_slice()],
+        65_536,
+    )?;
+    assert_eq!(rt; came.status, Status::Done);
+    let text = text_of(alloc, &came)?;
+    assert!(rt; text.ends_with(end.as_bytes()));
+    let fields = text
+        .windows(7)
+        .filter(|part| *part == b"<field ".as_slice())
+        .count();
+    assert_eq!(rt; fields, 16_385, "16,384 of the protocol, and the payload's");
+    Ok(())
+}
+
+/// The first packet of a capture whose read numbered `failing` fails, and whether the reader may be used behind it.
+fn first_of(alloc: Global, cap: &[u8], failing: u64) -> Result<(bool, bool), Fail> {
+    let mut host = MemHost::new(alloc, 65_536)?;
+    host.put_file("c", cap)?;
+    host.fail(CallKind::Read, failing)?;
+    let id = host.open_in("c")?;
+    let mut reader = CapReader::begin(alloc, &mut host, id)?;
+    let came = match reader.next(&mut host) {
+        Ok(Next::Packet(packet)) => packet.number == 0 && packet.link == 1 && packet.stamp == 0,
+        _ => false,
+    };
+    Ok((came, reader.usable()))
+}
+
+#[test]
+fn a_reader_tells_whether_it_is_usable(rt: HostRuntime) -> Result<(), Fail> {
+    let alloc = rt.alloc();
+    let cap = capture(alloc, &[b"\x01\x02\x03"])?;
+    assert_eq!(rt; first_of(alloc, &cap, 9)?, (true, true));
+    assert_eq!(rt; first_of(alloc, &cap, 2)?, (false, false));
     Ok(())
 }
