@@ -17,10 +17,12 @@ database_opening = codes "<netpdl>\n"
 abbrev database_end : List ℕ
 database_end = codes "</netpdl>\n"
 
+-- nothing stands behind the end
 nil_is : (rest : List ℕ) → is_nil rest ≡ true → rest ≡ []
 nil_is [] e = refl
 nil_is (first ∷ others) e = absurd (false≢true e)
 
+-- the parts of a text in order
 database_joined : (lines text behind ended rest : List ℕ) → text ≡ database_opening ++ behind → behind ≡ lines ++ ended → ended ≡ database_end ++ rest → rest ≡ [] → text ≡ database_opening ++ (lines ++ database_end)
 database_joined lines text behind ended rest one two three four = one ∙ rw (two, three, four) refl
 
@@ -46,6 +48,7 @@ database_in-complete db all =
     let ended : after database_end database_end ≡ Some [] = after-append database_end [] in
     rw (after-append database_opening lines, protocols_in-complete db database_end all protocols_stop, ended) refl
 
+-- what is read is simple
 pub simple_in-sound : (text : List ℕ) (db : List SimpleProtocol) → simple_in text ≡ Some db → IsSimple text db
 unfolding simple_in
 simple_in-sound text db e =
@@ -59,6 +62,7 @@ simple_in-sound text db e =
     small_is : (count : ℕ) → nat_le count 1048576 ≡ true → count ≤ 1048576
     small_is count e = grind (arith, nat_tests)
 
+-- and what is simple is read
 pub simple_in-complete : (text : List ℕ) (db : List SimpleProtocol) → IsSimple text db → simple_in text ≡ Some db
 unfolding simple_in
 simple_in-complete text db is =

@@ -11,9 +11,11 @@ use Rattle.npd_top.proofs.NameText.{name_in-complete, name_in-sound}
 use Rattle.npd_top.proofs.SizeText.{size_in-complete, size_in-sound}
 use Rattle.npd_top.proofs.Items.{IsSpelling, item_falls, front-more, front-end, front-refused, items_in-sound, items_in-complete}
 
+-- between the quotes of the name and of the size
 abbrev typed : List ℕ
 typed = codes " type=\"fixed\" size=\""
 
+-- the parts of a field in order
 field_joined : (name digits text behind_name sized behind_size rest : List ℕ) → text ≡ name ++ 34 ∷ behind_name → behind_name ≡ typed ++ sized → sized ≡ digits ++ 34 ∷ behind_size → behind_size ≡ codes "/>" ++ rest → text ≡ (name ++ (codes "\" type=\"fixed\" size=\"" ++ (digits ++ codes "\"/>"))) ++ rest
 field_joined name digits text behind_name sized behind_size rest one two three four =
     rw (one, two, three, four) (sym (simp append_assoc))

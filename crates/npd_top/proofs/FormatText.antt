@@ -53,6 +53,7 @@ format_in-sound text fields rest e = at_opening (after format_opening text) refl
         let whole = joined (fields_text read.0.0) behind read.0.1 ended.0 (after-sound format_opening text behind opened) spelled.0 (after-sound format_end read.0.1 ended.0 ended.1) in
         along Sound read.0.0 fields ended.0 rest (ap Some some.1) (some_fields read.0.0 ended.0 some.0 whole, spelled.1)
 
+-- at the end of the fields no further one opens
 fields_stop : (rest : List ℕ) → after field_opening (format_end ++ rest) ≡ None
 unfolding after
 fields_stop rest = refl

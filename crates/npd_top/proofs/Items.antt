@@ -19,12 +19,14 @@ behind_is_shorter : (opening text behind : List ℕ) → 0 < length opening → 
 behind_is_shorter opening text behind some e =
     omega (arith, ap length (after-sound opening text behind e), length-append opening behind)
 
+-- an item in front of others that were read
 with_first_is : (A : Type 0) (opening : List ℕ) (item : List ℕ → Option (A × List ℕ)) (first : A) (more : Option (List A × List ℕ)) (items : List A) (rest : List ℕ) → with_first A opening item first more ≡ Some (items, rest) → (others : List A) × (first ∷ others ≡ items) × (more ≡ Some (others, rest))
 with_first_is A opening item first None items rest e = absurd (none_is_some e)
 with_first_is A opening item first (Some (others, behind)) items rest e =
     let parts = parts_are (first ∷ others) items behind rest e in
     (others, parts.0, ap (λ past. Some (others, past)) parts.1)
 
+-- an opening, a tail and what follows
 joined : (opening tail others text behind past rest : List ℕ) → text ≡ opening ++ behind → behind ≡ tail ++ past → past ≡ others ++ rest → text ≡ (opening ++ (tail ++ others)) ++ rest
 joined opening tail others text behind past rest one two three =
     rw (one, two, three) (sym (simp append_assoc))
@@ -61,6 +63,7 @@ module _ (A : Type 0) (opening : List ℕ) (item : List ℕ → Option (A × Lis
   enough (suc n) (suc m) text low high =
       step_same (items_within A opening item n) (items_within A opening item m) text (λ rest short. enough n m rest (omega arith) (omega arith))
 
+  -- the law of the reading
   pub items_in-step : (text : List ℕ) → items_in A opening item text ≡ items_step A opening item (items_in A opening item) text (after opening text)
   unfolding items_in items_within
   items_in-step text =
@@ -93,6 +96,7 @@ module _ (A : Type 0) (opening : List ℕ) (item : List ℕ → Option (A × Lis
   pub front-refused : (front : List A) (text behind : List ℕ) → after opening text ≡ Some behind → item behind ≡ None → with_front front (items_in A opening item text) ≡ None
   front-refused front text behind opened none = rw (items_in-refused text behind opened none) refl
 
+  -- what is read is spelled so
   step_sound : (more : List ℕ → Option (List A × List ℕ)) → ((past : List ℕ) (others : List A) (rest : List ℕ) → more past ≡ Some (others, rest) → (past ≡ spelled others ++ rest) × AllByRecursion P others) → (text : List ℕ) (items : List A) (rest : List ℕ) → items_step A opening item more text (after opening text) ≡ Some (items, rest) → (text ≡ spelled items ++ rest) × AllByRecursion P items
   step_sound more later text items rest e = at_opening (after opening text) refl e
     where
@@ -121,6 +125,7 @@ module _ (A : Type 0) (opening : List ℕ) (item : List ℕ → Option (A × Lis
   unfolding items_in
   items_in-sound text items rest e = within-sound (suc (length text)) text items rest e
 
+  -- what is spelled so is read, up to where no opening stands
   pub items_in-complete : (items : List A) (rest : List ℕ) → AllByRecursion P items → after opening rest ≡ None → items_in A opening item (spelled items ++ rest) ≡ Some (items, rest)
   items_in-complete [] rest all stop = rw is.none (items_in-end rest stop)
   items_in-complete (first ∷ others) rest all stop =

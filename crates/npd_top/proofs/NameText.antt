@@ -24,12 +24,14 @@ name_continues (first ∷ rest) e =
     let begins = continues-begins first both.0 in
     rw begins both.1
 
+-- what is spelled so is read
 pub name_in-complete : (name rest : List ℕ) → is_name name ≡ true → name_in (name ++ 34 ∷ rest) ≡ Some (name, rest)
 unfolding name_in
 name_in-complete name rest is =
     let count = run_length continues_name name 34 rest (name_continues name is) refl in
     rw (count, drop-append_seam name (34 ∷ rest), after-append (34 ∷ []) rest, take-append_seam name (34 ∷ rest), is) refl
 
+-- what is read is spelled so
 pub name_in-sound : (text name rest : List ℕ) → name_in text ≡ Some (name, rest) → (text ≡ name ++ 34 ∷ rest) × (is_name name ≡ true)
 unfolding name_in
 name_in-sound text name rest e =

@@ -11,11 +11,13 @@ use Rattle.npd_top.specs.Reader.{IsWholeRead}
 use Rattle.npd_top.proofs.Binds.{and_is}
 use Rattle.npd_top.proofs.DatabaseText.{simple_in-sound, simple_in-none}
 
+-- the database that the text spells, or none is spelled
 pub simple_result : (result : Result (List SimpleProtocol) ReadFail) (text : List ℕ) → IsWholeRead result (simple_in text) → MatchResult result (IsSimple text) (λ fail. fail ≡ NotSimple → (db : List SimpleProtocol) → IsSimple text db → ⊥)
 simple_result (Ok db) text read = simple_in-sound text db read
 simple_result (Err NotSimple) text read = λ is db spelled. simple_in-none text read db spelled
 simple_result (Err NoMemory) text read = λ is db spelled. cc
 
+-- a simple database has few protocols
 few_in : (db : List SimpleProtocol) → is_consistent db ≡ true → length db ≤ 1024
 few_in db is =
     let nexts = and_is (nat_le (length db) 1024 && have_own_names db && not (is_declared db (codes "payload")) && is_declared db (codes "startproto")) (are_nexts_declared db db) is in

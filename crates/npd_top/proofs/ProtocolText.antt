@@ -24,6 +24,7 @@ protocol_end = codes "</protocol>\n"
 abbrev IsNext : Option (List ℕ) → Type 0
 IsNext next = IfSome next (λ name. IsTrue (is_name name))
 
+-- the parts of an encapsulation in order
 next_joined : (opening name quote_and_end text behind ended rest : List ℕ) → text ≡ opening ++ behind → behind ≡ name ++ ended → ended ≡ quote_and_end ++ rest → text ≡ (opening ++ (name ++ quote_and_end)) ++ rest
 next_joined opening name quote_and_end text behind ended rest one two three = rw (one, two, three) (sym (simp append_assoc))
 
@@ -53,6 +54,7 @@ encapsulation_in-complete (Some name) rest is stop =
     subst (λ spelled. encapsulation_behind spelled (after encapsulation_opening spelled) ≡ Some (Some name, rest)) text
     (rw (after-append encapsulation_opening behind, name_in-complete name (encapsulation_end ++ rest) is, after-append encapsulation_end rest) refl)
 
+-- the parts of a protocol in order
 protocol_joined : (name format next text behind_name parts behind_format behind_next rest : List ℕ) → text ≡ name ++ 34 ∷ behind_name → behind_name ≡ codes ">" ++ parts → parts ≡ format ++ behind_format → behind_format ≡ next ++ behind_next → behind_next ≡ protocol_end ++ rest → text ≡ (name ++ (codes "\">" ++ (format ++ (next ++ protocol_end)))) ++ rest
 protocol_joined name format next text behind_name parts behind_format behind_next rest one two three four five =
     rw (one, two, three, four, five) (sym (simp append_assoc))
@@ -79,6 +81,7 @@ unfolding after
 format_stop None rest = refl
 format_stop (Some name) rest = refl
 
+-- where no encapsulation part stands, the end comes
 encapsulation_stop : (rest : List ℕ) → after encapsulation_opening (protocol_end ++ rest) ≡ None
 unfolding after
 encapsulation_stop rest = refl

@@ -14,6 +14,7 @@ use Rattle.npd_top.proofs.Literals.{after-append}
 use Rattle.npd_top.proofs.Sizes.{front_passes}
 use Rattle.npd_top.proofs.Binds.{bound, when_is, and_is, run_length, run_and_quote}
 
+-- std's lemmas on numerals, in the words of the reader
 abbrev AreDigits : List ℕ → Type 0
 AreDigits digits = list_all is_ascii_digit digits ≡ true
 
@@ -39,6 +40,7 @@ size_parts first count value is =
     let small = parts.1 in
     (grind (arith, nat_tests), grind (arith, nat_tests))
 
+-- digits that pass it
 decimal_size : (digits : List ℕ) → AreDigits digits → is_size digits ≡ true → (decimal (digits_value 10 digits) ≡ digits) × (1 ≤ digits_value 10 digits) × (digits_value 10 digits ≤ 65535)
 decimal_size [] all is = absurd (false≢true is)
 decimal_size (first ∷ digits) all is =
@@ -53,6 +55,7 @@ size_test first count value starts few small =
     let fits : nat_le value 65535 ≡ true = grind (arith, nat_tests) in
     rw (begins, short, fits) refl
 
+-- digits of a size
 size_decimal : (size : ℕ) → 1 ≤ size → size ≤ 65535 → (digits : List ℕ) → decimal size ≡ digits → is_size digits ≡ true
 size_decimal size low high [] is =
     absurd (omega (arith, decimal_nonempty size (omega arith), ap length is))
@@ -62,6 +65,7 @@ size_decimal size low high (first ∷ digits) is =
     let value : digits_value 10 (first ∷ digits) ≡ size = rw is at (digits_value-decimal numerals size (omega arith)) in
     size_test first (length digits) (digits_value 10 (first ∷ digits)) starts few (omega arith)
 
+-- what is spelled so is read
 pub size_in-complete : (size : ℕ) (rest : List ℕ) → 1 ≤ size → size ≤ 65535 → size_in (decimal size ++ 34 ∷ rest) ≡ Some (size, rest)
 unfolding size_in
 size_in-complete size rest low high =
@@ -70,6 +74,7 @@ size_in-complete size rest low high =
     let is = size_decimal size low high (decimal size) refl in
     rw (count, drop-append_seam (decimal size) (34 ∷ rest), after-append (34 ∷ []) rest, take-append_seam (decimal size) (34 ∷ rest), is, digits_value-decimal numerals size (omega arith)) refl
 
+-- what is read is spelled so
 pub size_in-sound : (text : List ℕ) (size : ℕ) (rest : List ℕ) → size_in text ≡ Some (size, rest) → (text ≡ decimal size ++ 34 ∷ rest) × (1 ≤ size) × (size ≤ 65535)
 unfolding size_in
 size_in-sound text size rest e =
