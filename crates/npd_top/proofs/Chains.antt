@@ -1,5 +1,5 @@
 -- One step of the chain of protocols.
-use Rattle.std.proofs.Common.{◌≡◌, ℕ, zero, suc, ◌+◌, ◌-◌, ◌<◌, List, [], ◌∷◌, ◌++◌, length, Option, Some, None, refl, sym, ap, ◌∙◌, append_assoc, arith}
+use Rattle.std.proofs.Common.{◌≡◌, ℕ, zero, suc, List, [], ◌∷◌, ◌++◌, length, Some, None, refl, append_assoc}
 use Rattle.std.specs.Prelude.{slice_get}
 use Rattle.db_model.specs.declared.tree.Reason.TheVariants.{Protocols}
 use Rattle.db_model.specs.declared.tree.Node.TheVariants.{Note}
@@ -7,7 +7,7 @@ use Rattle.db_model.specs.declared.tree.Proto.{Proto}
 use Rattle.npd_top.specs.declared.decode.Went.{Went}
 use Rattle.npd_top.specs.declared.decode.Chain.{Chain}
 use Rattle.npd_top.specs.declared.simple.SimpleProtocol.{SimpleProtocol}
-use Rattle.npd_top.specs.Decoding.{chain, behind, body, chosen, next_of, ends, goes_on, proto_of, with_protos}
+use Rattle.npd_top.specs.Decoding.{chain, body, chosen, next_of, ends, goes_on, proto_of, with_protos}
 
 -- no next protocol is chosen
 pub chain_ends : (more : ℕ) (db : List SimpleProtocol) (number at room : ℕ) (bytes : List ℕ) (went : Went) → went ≡ body db number at room bytes → chosen db (next_of (slice_get db number)) (length bytes) went ≡ None → chain more db number at room bytes ≡ ends (proto_of number at went.nodes went.at) went.at

@@ -1,9 +1,9 @@
 -- Where nothing stands in the way, a run ends well.
-use Rattle.std.proofs.Common.{◌≡◌, ℕ, List, ◌∷◌, length, Option, Some, None, refl, sym, ap, ◌∙◌, subst, inl, inr, ⊎_elim, ◌⊎◌, IfSome}
+use Rattle.std.proofs.Common.{◌≡◌, ℕ, List, Option, Some, None, refl, sym, ◌∙◌, inl, inr, ◌⊎◌, IfSome}
 use Rattle.db_model.specs.declared.packet.Packet.{Packet}
 use Rattle.npd_host.specs.declared.host.CallKind.{CallKind}
 use Rattle.npd_host.specs.declared.host.CallKind.TheVariants as call
-use Rattle.npd_host.specs.Host.{Outputs, Rose}
+use Rattle.npd_host.specs.Host.{Outputs}
 use Rattle.pcap_in.specs.Capture.{cap}
 use Rattle.npd_top.specs.declared.plan.Plan.{Plan}
 use Rattle.npd_top.specs.declared.simple.SimpleProtocol.{SimpleProtocol}

@@ -1,11 +1,11 @@
 -- One step of the decoding of fields.
-use Rattle.std.proofs.Common.{◌≡◌, Bool, ℕ, suc, ◌+◌, ◌-◌, ◌<◌, ◌≤◌, List, [], ◌∷◌, ◌++◌, length, take, drop, get_or, Some, None, true, false, refl, sym, ap, ◌∙◌, subst, append_assoc, add-one, drop-cons, arith}
+use Rattle.std.proofs.Common.{◌≡◌, Bool, ℕ, suc, ◌+◌, ◌-◌, ◌<◌, ◌≤◌, List, [], ◌∷◌, ◌++◌, length, take, drop, get_or, Some, None, true, false, refl, sym, ap, ◌∙◌, append_assoc, add-one, drop-cons, arith}
 use Rattle.db_model.specs.declared.tree.Reason.{Reason}
 use Rattle.db_model.specs.declared.tree.Node.{Node}
 use Rattle.db_model.specs.declared.tree.Node.TheVariants.{Field, Note}
 use Rattle.npd_top.specs.declared.decode.Went.{Went}
 use Rattle.npd_top.specs.declared.simple.SimpleField.{SimpleField}
-use Rattle.npd_top.specs.Decoding.{fields_from, field_then, refusal, stopped, with_node, with_nodes}
+use Rattle.npd_top.specs.Decoding.{fields_from, refusal, with_nodes}
 use Rattle.std.proofs.lemmas.Bool.Decides.{nat_tests}
 use Rattle.std.proofs.lemmas.List.{drop_all, append-nil}
 

@@ -1,17 +1,17 @@
 -- How pieces that are written one after the other make up a text.
-use Rattle.std.proofs.Common.{◌≡◌, ℕ, suc, ◌+◌, ◌<◌, ◌≤◌, List, [], ◌∷◌, ◌++◌, length, take, drop, get_or, Result, Ok, Err, refl, sym, ap, ◌∙◌, append_assoc, append-nil, add-one, drop-cons, arith}
+use Rattle.std.proofs.Common.{◌≡◌, ℕ, suc, ◌+◌, ◌<◌, ◌≤◌, List, [], ◌∷◌, ◌++◌, length, take, drop, get_or, Result, Ok, Err, refl, sym, ap, ◌∙◌, append_assoc, append-nil, add-one, drop-cons}
 use Rattle.std.specs.List.{flat_map}
 use Rattle.std.proofs.lemmas.List.{take-append-drop, take_more, take_all, flat_map_more}
 use Rattle.std.proofs.lemmas.Grind.{flat_map-append}
 use Rattle.db_model.specs.declared.packet.Packet.{Packet}
-use Rattle.npd_host.specs.Host.{Outputs, Took, TookPart}
+use Rattle.npd_host.specs.Host.{Outputs, Took}
 use Rattle.npd_host.proofs.Transfers.{took_then, part_then}
 use Rattle.npd_top.specs.declared.simple.SimpleProtocol.{SimpleProtocol}
 use Rattle.npd_top.specs.declared.status.Role.TheVariants.{Db, Cap, Pdml}
 use Rattle.npd_top.specs.declared.status.Status.{Status}
 use Rattle.npd_top.specs.declared.status.Status.TheVariants.{Done, Open, Read, Write, NoMemory, Unbuilt}
 use Rattle.npd_top.specs.Pdml.{open_text, whole_text, packet_text, opening, closing}
-use Rattle.npd_top.specs.Written.{TookFront, FailsText, TakesText}
+use Rattle.npd_top.specs.Written.{FailsText, TakesText}
 
 -- whole pieces were taken, and the writing of the next gave up
 pub fails_then : (status : Status) (id : ℕ) (r s t : Outputs) (xs ys zs whole : List ℕ) → Took id r s xs → FailsText status id s t ys → whole ≡ xs ++ (ys ++ zs) → FailsText status id r t whole

@@ -1,7 +1,6 @@
 -- How the findings of a run's steps make up what its status says.
-use Rattle.std.proofs.Common.{◌≡◌, ℕ, List, ◌++◌, length, Option, Some, None, Result, Ok, Err, refl, sym, ap, ◌∙◌, inl, inr, ⊎_elim, IfSome}
+use Rattle.std.proofs.Common.{ℕ, List, Option, Some, None, Err, inl, inr, ⊎_elim, IfSome}
 use Rattle.db_model.specs.declared.packet.Packet.{Packet}
-use Rattle.npd_host.specs.declared.host.CallKind.{CallKind}
 use Rattle.npd_host.specs.Host.{Outputs}
 use Rattle.pcap_in.specs.Capture.{cap}
 use Rattle.npd_top.specs.declared.plan.Plan.{Plan}

@@ -1,5 +1,5 @@
 -- What decoding a packet by a simple database gives.
-use Rattle.std.specs.Prelude.{Bool, true, false, ◌||◌, ◌+◌, ◌-◌, ◌==◌, nat_lt, nat_eq, if◌then◌else◌, ℕ, zero, suc, List, [], ◌∷◌, ◌++◌, length, take, drop, codes, Option, Some, None, option_map, slice_get}
+use Rattle.std.specs.Prelude.{true, false, ◌||◌, ◌+◌, ◌-◌, ◌==◌, nat_lt, nat_eq, if◌then◌else◌, ℕ, zero, suc, List, [], ◌∷◌, ◌++◌, length, take, drop, codes, Option, Some, None, option_map, slice_get}
 use Rattle.std.specs.Cmp.Lexicographic.{pointwise}
 use Rattle.db_model.specs.declared.tree.Reason.{Reason}
 use Rattle.db_model.specs.declared.tree.Reason.TheVariants.{Short, Nodes, Protocols}

@@ -1,5 +1,5 @@
 -- The PDML text of packets that were decoded by a simple database.
-use Rattle.std.specs.Prelude.{Bool, ◌&&◌, ◌+◌, ◌/◌, ◌%◌, ◌==◌, nat_le, if◌then◌else◌, ℕ, List, [], ◌∷◌, ◌++◌, length, drop, codes, decimal, Option, Some, None, slice_get}
+use Rattle.std.specs.Prelude.{◌&&◌, ◌+◌, ◌/◌, ◌%◌, ◌==◌, nat_le, if◌then◌else◌, ℕ, List, [], ◌∷◌, ◌++◌, length, drop, codes, decimal, Option, Some, None, slice_get}
 use Rattle.std.specs.List.{flat_map}
 use Rattle.hex.specs.Hex.{encode_lower}
 use Rattle.db_model.specs.Reason.{reason_word}

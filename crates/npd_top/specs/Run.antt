@@ -1,5 +1,5 @@
 -- What a run comes to: which status comes where, what it shows, and what the output has taken then.
-use Rattle.std.specs.Prelude.{◌≡◌, ◌⊎◌, ℕ, List, [], ◌++◌, ◌<◌, length, Option, Some, None, Result, Ok, Err, IfSome}
+use Rattle.std.specs.Prelude.{◌≡◌, ◌⊎◌, ℕ, List, [], ◌++◌, ◌<◌, length, Option, Some, Result, Ok, Err, IfSome}
 use Rattle.db_model.specs.declared.packet.Packet.{Packet}
 use Rattle.npd_host.specs.declared.host.CallKind.{CallKind}
 use Rattle.npd_host.specs.declared.host.CallKind.TheVariants as call

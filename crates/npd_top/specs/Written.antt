@@ -1,5 +1,5 @@
 -- What a run has written to one named output, and that every other output is left.
-use Rattle.std.specs.Prelude.{◌≡◌, ◌<◌, ◌⊎◌, ℕ, List, ◌++◌, length, Option, Some, None, Result, Ok, Err, IfSome}
+use Rattle.std.specs.Prelude.{◌≡◌, ◌<◌, ◌⊎◌, ℕ, List, ◌++◌, length, Some, None, Result, Ok, Err, IfSome}
 use Rattle.npd_host.specs.Host.{Outputs, Took, TookPart}
 use Rattle.npd_top.specs.declared.status.Role.TheVariants.{Pdml}
 use Rattle.npd_top.specs.declared.status.Status.{Status}

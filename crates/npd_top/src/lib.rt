@@ -15,6 +15,7 @@ mod simple;
 mod status;
 
 pub use plan::Plan;
+pub use reader::{ReadFail, read_database, spells_one_database};
 pub use run::run_serial;
 pub use simple::{SimpleDb, SimpleField, SimpleProtocol};
 pub use status::{Part, Role, Status};

@@ -1,4 +1,4 @@
-use Rattle.std.proofs.Common.{◌≡◌, ◌+◌, ◌≤◌, length, drop}
+use Rattle.std.proofs.Common.{◌≡◌, ◌+◌, drop}
 use Rattle.npd_top.specs.Decoding.{place_of}
 use Rattle.npd_top.proofs.decode.place_of.Given as goal
 

@@ -1,4 +1,3 @@
-use Rattle.std.proofs.Common.{sym, ◌∙◌}
 use Rattle.npd_top.specs.Written.{Wrote}
 use Rattle.npd_top.proofs.Runs.{finds_both, says_written}
 use Rattle.npd_top.proofs.run.run_plan.Goals as goal
