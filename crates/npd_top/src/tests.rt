@@ -225,7 +225,7 @@ fn check(
 }
 
 #[test]
-fn each_answer_to_an_input(rt: HostRuntime) -> Result<(), Fail> {
+fn each_of_the_seven_answers(rt: HostRuntime) -> Result<(), Fail> {
     let alloc = rt.alloc();
     let whole = capture(alloc, &[b"\x01\x02\x03"])?;
     let mut done = String::from_str(alloc, OPENING)?;
@@ -255,21 +255,24 @@ fn each_answer_to_an_input(rt: HostRuntime) -> Result<(), Fail> {
         "npd: unbuilt capture\n",
     );
     let open_db = (Status::Open { role: Role::Db }, 3, "npd: open db\n");
-    let open_cap = (Status::Open { role: Role::Cap }, 3, "npd: open cap\n");
-    for (count, db, cap, answer, written) in [
-        (9, db, cap, (Status::Done, 0, ""), Some(done.as_str())),
-        (8, db, cap, words, None),
-        (9, no_db, cap, database, None),
-        (9, db, cut, capture, None),
-        (9, None, cap, open_db, None),
-        (9, db, None, open_cap, None),
+    let read_cap = (Status::Read { role: Role::Cap }, 4, "npd: read cap\n");
+    let write = (Status::Write { role: Role::Pdml }, 5, "npd: write pdml\n");
+    let (read_fails, write_fails) = (Some((CallKind::Read, 2)), Some((CallKind::Write, 1)));
+    for (count, db, cap, failing, answer, written) in [
+        (9, db, cap, None, (Status::Done, 0, ""), Some(done.as_str())),
+        (8, db, cap, None, words, None),
+        (9, no_db, cap, None, database, None),
+        (9, db, cut, None, capture, None),
+        (9, None, cap, None, open_db, None),
+        (9, db, cap, read_fails, read_cap, None),
+        (9, db, cap, write_fails, write, Some(OPENING)),
     ] {
         let given = Given {
             words: &SERVED[..count],
             db: db.map(|text| text.as_bytes()),
             cap,
             chunk: 65_536,
-            failing: None,
+            failing,
         };
         check(&rt, &given, answer, written)?;
     }
