@@ -7,8 +7,5 @@ pub mod LawsHold
 pub mod BareDb
 pub mod Accepted
 pub mod Includes
-pub mod Worked
-pub mod Judged
-pub mod Rules
 pub mod Layers
 pub mod Fitted

@@ -3,7 +3,6 @@ pub mod BlockFaults
 pub mod Chain
 pub mod Decoding
 pub mod Elements
-pub mod Examples
 pub mod Expression
 pub mod Extent
 pub mod Fitting
@@ -23,17 +22,11 @@ pub mod Over
 pub mod Questions
 pub mod Reason
 pub mod Replay
-pub mod RuleExamples
-pub mod RuleSamples
 pub mod Runs
-pub mod Samples
 pub mod Serial
 pub mod Session
-pub mod SessionPackets
-pub mod SessionSample
 pub mod Shape
 pub mod Special
 pub mod Table
-pub mod TableSample
 pub mod TypeFaults
 pub mod Typing

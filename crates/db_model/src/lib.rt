@@ -1,5 +1,8 @@
-//! The types that every layer speaks of: bytes, names, packets and decoded trees. Contracts see each of
-//! them as plain data (a list, a number or a record), so two values are equal where what they show is equal.
+//! The language of databases as types, and the definitions of decoding over them: what tables answer, what
+//! expressions, elements and the chain of protocols do, the tree of a packet, and what a log says when it is
+//! asked again. Every layer's contracts are stated against these definitions (`specs/`). Contracts see each
+//! type as plain data (a list, a number or a record), so two values are equal where what they show is equal.
+//! `CheckedDb` is a database without any of the eight faults; `laws` has the theorems about the definitions.
 #![tactic(auto)]
 
 mod bytes;
@@ -9,7 +12,6 @@ mod declaration;
 mod element;
 mod entry;
 mod env;
-pub mod examples;
 mod expression;
 mod field_kind;
 pub mod laws;

@@ -1,0 +1,7 @@
+pub mod Examples
+pub mod RuleExamples
+pub mod RuleSamples
+pub mod Samples
+pub mod SessionPackets
+pub mod SessionSample
+pub mod TableSample

@@ -1,5 +1,0 @@
-use Rattle.db_model.proofs.Worked.{deadline_is_end}
-use Rattle.db_model.proofs.examples.deadline_is_end.Goals as goal
-
-pub returns : goal.returns
-returns c = deadline_is_end

@@ -1,5 +1,0 @@
-use Rattle.db_model.proofs.Rules.{end_before_protocols}
-use Rattle.db_model.proofs.examples.end_before_protocols.Goals as goal
-
-pub returns : goal.returns
-returns c = end_before_protocols

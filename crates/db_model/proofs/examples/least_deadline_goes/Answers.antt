@@ -1,5 +1,0 @@
-use Rattle.db_model.proofs.Rules.{least_deadline_goes}
-use Rattle.db_model.proofs.examples.least_deadline_goes.Goals as goal
-
-pub returns : goal.returns
-returns c = least_deadline_goes

@@ -1,5 +1,0 @@
-use Rattle.db_model.proofs.Worked.{right_side_alone}
-use Rattle.db_model.proofs.examples.right_side_alone.Goals as goal
-
-pub returns : goal.returns
-returns c = right_side_alone

@@ -1,5 +1,0 @@
-use Rattle.db_model.proofs.Rules.{room_keeps_all}
-use Rattle.db_model.proofs.examples.room_keeps_all.Goals as goal
-
-pub returns : goal.returns
-returns c = room_keeps_all
