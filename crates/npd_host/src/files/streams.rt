@@ -1,6 +1,6 @@
 ghost use Rattle.std.specs.Prelude.{◌<◌, ◌≤◌, IfSome, length};
 
-use std::fs::File;
+use std::fs::OpenOptions;
 use std::io;
 use std::io::{ErrorKind, Read, Write};
 use std::rt::Files;
@@ -54,17 +54,8 @@ pub fn open<R: Files + Input>(rt: &R, name: &str) -> Option<Source<R::Reader, R:
     if name == STANDARD {
         return Some(Source::Standard(rt.reader()));
     }
-    for _ in 0..MOST_CALLS {
-        match File::open(rt, name) {
-            Ok(file) => return Some(Source::File(file)),
-            Err(error) => {
-                if !is_interrupted(&error) {
-                    return None;
-                }
-            }
-        }
-    }
-    None
+    let file = open_file(rt, OpenOptions::new().read(true), name)?;
+    Some(Source::File(file))
 }
 
 /// Begins an empty output: a file, or standard output by the name `-`. None: it could not be opened.
@@ -72,9 +63,16 @@ pub fn create<R: Files>(rt: &R, name: &str) -> Option<Sink<R::File>> {
     if name == STANDARD {
         return Some(Sink::Standard);
     }
+    let mut options = OpenOptions::new();
+    options.write(true).create(true).truncate(true);
+    let file = open_file(rt, &options, name)?;
+    Some(Sink::File(file))
+}
+
+fn open_file<R: Files>(rt: &R, options: &OpenOptions, name: &str) -> Option<R::File> {
     for _ in 0..MOST_CALLS {
-        match File::create(rt, name) {
-            Ok(file) => return Some(Sink::File(file)),
+        match options.open(rt, name) {
+            Ok(file) => return Some(file),
             Err(error) => {
                 if !is_interrupted(&error) {
                     return None;
