@@ -4,7 +4,7 @@ use Rattle.std.proofs.Common.{refl}
 use Rattle.db_model.specs.declared.element.Element.TheBlock.{hidden-the_row-Element-0, hidden-the_row-Case-1}
 use Rattle.db_model.specs.declared.expression.Expr.TheBlock.{hidden-the_row-Expr-0, hidden-the_row-Expr-1}
 use Rattle.db_model.specs.BlockFaults.{fault_45, fault_46}
-use Rattle.db_examples.specs.Examples.{DatabasesAreJudged}
+use Rattle.db_examples.specs.Examples.{DatabasesAreJudged, SizesAreTyped}
 use Rattle.db_model.specs.Forms.{is_expression}
 use Rattle.db_model.specs.Name.{is_name, is_operator_word, is_function_word}
 use Rattle.db_model.specs.NameFaults.{fault_40, fault_41}
@@ -29,3 +29,7 @@ databases_are_judged = record {
   looping = refl;
   no_start = refl;
 }
+
+pub sizes_are_typed : SizesAreTyped
+unfolding type_of hidden-the_row-Expr-0 hidden-the_row-Expr-1 hidden
+sizes_are_typed = record { four = refl; five = refl; none = refl }

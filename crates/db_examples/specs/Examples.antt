@@ -15,6 +15,8 @@ use Rattle.db_model.specs.declared.tree.Node.TheVariants.{Field, Block', Note}
 use Rattle.db_model.specs.declared.tree.Proto.{Proto}
 use Rattle.db_model.specs.declared.tree.Reason.{Reason}
 use Rattle.db_model.specs.declared.tree.Reason.TheVariants.{Short, Turns, Range, Zero, Slice, Size}
+use Rattle.db_model.specs.declared.expression.TypeFault.TheVariants.{Mistyped}
+use Rattle.db_model.specs.declared.value.Ty.TheVariants as ty
 use Rattle.db_model.specs.declared.value.Value.{Value}
 use Rattle.db_model.specs.declared.value.Value.TheVariants.{Num, Buf}
 use Rattle.db_model.specs.declared.value.Value.TheVariants as value
@@ -29,6 +31,7 @@ use Rattle.db_model.specs.Session.{Session, declared}
 use Rattle.db_examples.specs.SessionPackets.{captured, conversation, request_tree, answer_tree, stray_tree}
 use Rattle.db_examples.specs.SessionSample.{sessions_db}
 use Rattle.db_model.specs.Shape.{is_shaped}
+use Rattle.db_model.specs.Typing.{type_of}
 use Rattle.db_examples.specs.TableSample.{table_db}
 
 -- the answers in the log of the packet at place k
@@ -194,3 +197,9 @@ pub record DatabasesAreJudged : Type 0 where
   pub unfollowed : objection unfollowed_db ≡ Some (record { line = 3; code = 44 })
   pub looping : objection looping_db ≡ Some (record { line = 3; code = 45 })
   pub no_start : objection empty_db ≡ Some (record { line = 1; code = 41 })
+
+-- the size in int2buf is a part of the type: a number has 1 to 4 bytes
+pub record SizesAreTyped : Type 0 where
+  pub four : type_of empty_db [] (expr.ToBytes (expr.Number 1) 4) ≡ Ok ty.Buf
+  pub five : type_of empty_db [] (expr.ToBytes (expr.Number 1) 5) ≡ Err Mistyped
+  pub none : type_of empty_db [] (expr.ToBytes (expr.Number 1) 0) ≡ Err Mistyped

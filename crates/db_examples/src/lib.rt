@@ -3,7 +3,7 @@
 //! says something else is refused here.
 #![tactic(auto)]
 
-ghost use Rattle.db_examples.specs.Examples.{SessionIsHit, EmptyPacket, ShortPacket, TurnsEnd, RightSideAlone, DeadlineIsEnd, FullTable, TimeRunsBackwards, MaskedAddsOnHit, FirstFrame, ExpressionsGive, DatabasesAreJudged};
+ghost use Rattle.db_examples.specs.Examples.{SessionIsHit, EmptyPacket, ShortPacket, TurnsEnd, RightSideAlone, DeadlineIsEnd, FullTable, TimeRunsBackwards, MaskedAddsOnHit, FirstFrame, ExpressionsGive, DatabasesAreJudged, SizesAreTyped};
 ghost use Rattle.db_examples.specs.RuleExamples.{RenewalKeepsPlace, LeastDeadlineGoes, RoomKeepsAll, ExactFirst, KeyBeforeQuestion, BlockBeforeBody, BreakRestoresLimit, NoteIsInnermost, EndBeforeProtocols};
 
 /// A request adds the session by which its answer is shown as text; an answer without one shows payload.
@@ -64,6 +64,11 @@ pub fn expressions_give()
 /// Which sample databases are accepted, and what is said of the others.
 pub fn databases_are_judged()
     ensures { DatabasesAreJudged }
+{}
+
+/// The size that `int2buf` is given is a part of the type.
+pub fn sizes_are_typed()
+    ensures { SizesAreTyped }
 {}
 
 /// A renewal leaves the entry in its place.

@@ -3,7 +3,7 @@ use Rattle.std.specs.Prelude.{ℕ, ◌+◌, max, Bool, true, ◌&&◌, nat_le, L
 use Rattle.std.specs.List.{list_all}
 use Rattle.db_model.specs.declared.expression.Expr.{Expr, Expr-F}
 use Rattle.db_model.specs.declared.expression.Expr.TheOpen as layer
-use Rattle.db_model.specs.declared.limits.TheConstants.{MOST_TEXT, MOST_NUMBER_BYTES, MOST_EXPRESSION_NODES, MOST_EXPRESSION_DEPTH}
+use Rattle.db_model.specs.declared.limits.TheConstants.{MOST_TEXT, MOST_EXPRESSION_NODES, MOST_EXPRESSION_DEPTH}
 use Rattle.db_model.specs.Folds.{fold_expr}
 use Rattle.db_model.specs.Name.{is_name}
 use Rattle.db_model.specs.Names.{Text}
@@ -70,7 +70,7 @@ depth_step (layer.LookUp table renew ks) = 1 + deepest ks
 abbrev pub depth_of : Expr → ℕ
 depth_of = fold_expr ℕ depth_step
 
--- the names have their form, and a number is written as 1 to 4 bytes
+-- the names have their form
 abbrev pub form_step : Expr-F Bool → Bool
 form_step (layer.Number n) = true
 form_step (layer.Text b) = true
@@ -85,7 +85,7 @@ form_step (layer.Binary o a b) = a && b
 form_step (layer.Slice a b c) = a && (b && c)
 form_step (layer.ToNumber a) = a
 form_step (layer.LengthOf a) = a
-form_step (layer.ToBytes a size) = is_between 1 MOST_NUMBER_BYTES size && a
+form_step (layer.ToBytes a size) = a
 form_step (layer.HasText a text) = a
 form_step (layer.IsPresent name) = is_name name
 form_step (layer.LookUp table renew ks) = is_name table && list_all (λ b. b) ks

@@ -13,7 +13,9 @@ use Rattle.db_model.specs.declared.expression.TypeFault.{TypeFault}
 use Rattle.db_model.specs.declared.expression.TypeFault.TheVariants.{Undeclared, Mistyped, Arity}
 use Rattle.db_model.specs.declared.value.Ty.{Ty}
 use Rattle.db_model.specs.declared.value.Ty.TheVariants.{Num, Buf, Proto}
+use Rattle.db_model.specs.declared.limits.TheConstants.{MOST_NUMBER_BYTES}
 use Rattle.db_model.specs.Folds.{fold_expr}
+use Rattle.db_model.specs.Forms.{is_between}
 use Rattle.db_model.specs.Names.{Text, variable_at, table_at, column_at}
 use Rattle.db_model.specs.Special.{Special, Packet, PacketLength, CurrentOffset, ProtoOffset, LinkType, special}
 
@@ -177,7 +179,7 @@ module _ (db : Database) where
   ty_step (layer.Slice a b c) = typed_if (is_of Buf a && (is_of Num b && is_of Num c)) Buf
   ty_step (layer.ToNumber a) = typed_if (is_of Buf a) Num
   ty_step (layer.LengthOf a) = typed_if (is_of Buf a) Num
-  ty_step (layer.ToBytes a size) = typed_if (is_of Num a) Buf
+  ty_step (layer.ToBytes a size) = typed_if (is_of Num a && is_between 1 MOST_NUMBER_BYTES size) Buf
   ty_step (layer.HasText a text) = typed_if (is_of Buf a) Num
   ty_step (layer.IsPresent name) = Some Num
   ty_step (layer.LookUp table renew ks) = typed_if (list_all (is_of Buf) ks) Num

@@ -9,6 +9,8 @@ use Rattle.db_model.specs.declared.expression.Expr.{Expr}
 use Rattle.db_model.specs.declared.expression.Operator.{Operator}
 use Rattle.db_model.specs.declared.value.Ty.{Ty}
 use Rattle.db_model.specs.declared.value.Ty.TheVariants.{Num, Buf}
+use Rattle.db_model.specs.declared.limits.TheConstants.{MOST_NUMBER_BYTES}
+use Rattle.db_model.specs.Forms.{is_between}
 use Rattle.db_model.specs.Names.{Text, table_at}
 use Rattle.db_model.specs.Typing.{has_wrong_arity, arity_step, has_keys, is_table, some_of, has_undeclared, undeclared_step, ty_of, ty_step, is_of, typed_if, operator_ty}
 use Rattle.db_model.proofs.Layers.{fold_not, fold_and, fold_or, fold_binary, fold_slice, fold_to_number, fold_length_of, fold_to_bytes, fold_has_text, fold_look_up}
@@ -97,7 +99,7 @@ module _ (db : Database) where
   pub ty_length_of : (a : Expr) → ty_of db (expr.LengthOf a) ≡ typed_if (is_of Buf (ty_of db a)) Num
   ty_length_of a = fold_length_of (Option Ty) (ty_step db) a
 
-  pub ty_to_bytes : (a : Expr) (size : ℕ) → ty_of db (expr.ToBytes a size) ≡ typed_if (is_of Num (ty_of db a)) Buf
+  pub ty_to_bytes : (a : Expr) (size : ℕ) → ty_of db (expr.ToBytes a size) ≡ typed_if (is_of Num (ty_of db a) && is_between 1 MOST_NUMBER_BYTES size) Buf
   ty_to_bytes a size = fold_to_bytes (Option Ty) (ty_step db) a size
 
   pub ty_has_text : (a : Expr) (text : List ℕ) → ty_of db (expr.HasText a text) ≡ typed_if (is_of Buf (ty_of db a)) Num

@@ -1,13 +1,14 @@
 ghost use Rattle.std.specs.Prelude.{◌≡◌, map, slice_get};
 ghost use Rattle.std.specs.List.{list_all};
 ghost use Rattle.std.specs.Option.{option_copied};
+ghost use Rattle.db_model.specs.Forms.{is_between};
 ghost use Rattle.db_model.specs.Names.{table_at, column_at};
 ghost use Rattle.db_model.specs.declared.value.Ty.TheVariants.{Buf};
 ghost use Rattle.db_model.specs.Special.{special};
 ghost use Rattle.db_model.specs.Typing.{ty_of, is_of, typed_if, operator_ty, variable_ty, column_ty, columns_in, special_ty};
 
 use crate::logic::both;
-use db_model::{Database, Expr, Name, Operator, Special, Ty};
+use db_model::{Database, Expr, MOST_NUMBER_BYTES, Name, Operator, Special, Ty};
 
 /// The type of an expression whose names are declared. None: the types of its parts don't fit.
 #[cycle(types)]
@@ -52,7 +53,10 @@ pub fn type_by(e: &Expr, db: &Database) -> Option<Ty>
         ),
         Expr::ToNumber(a) => typed(is(Ty::Buf, type_by(a.get(), db)), Ty::Num),
         Expr::LengthOf(a) => typed(is(Ty::Buf, type_by(a.get(), db)), Ty::Num),
-        Expr::ToBytes { value, .. } => typed(is(Ty::Num, type_by(value.get(), db)), Ty::Buf),
+        Expr::ToBytes { value, size } => typed(
+            both(is(Ty::Num, type_by(value.get(), db)), is_size(*size)),
+            Ty::Buf,
+        ),
         Expr::HasText { within, .. } => typed(is(Ty::Buf, type_by(within.get(), db)), Ty::Num),
         Expr::LookUp { keys, .. } => typed(all_bytes(keys.as_slice(), db), Ty::Num),
     }
@@ -68,6 +72,13 @@ fn all_bytes(keys: &[Expr], db: &Database) -> bool
         }
     }
     true
+}
+
+/// A number is written as 1 to 4 bytes.
+fn is_size(size: u32) -> bool
+    ensures { result ≡ is_between 1 MOST_NUMBER_BYTES size }
+{
+    1 <= size && size <= MOST_NUMBER_BYTES
 }
 
 fn is(wanted: Ty, ty: Option<Ty>) -> bool

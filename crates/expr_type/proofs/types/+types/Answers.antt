@@ -27,7 +27,7 @@ pub type_by-returns-in-LengthOf : goal.type_by-returns-in-LengthOf
 type_by-returns-in-LengthOf t c = told (ty_of c.args.db.now) _ _ _ _ c.in-LengthOf.is (ty_length_of c.args.db.now c.in-LengthOf.a) (typed_of Num c.typed-in-LengthOf.ensures (test_of Buf c.is-in-LengthOf.ensures (of_part (ty_of c.args.db.now) c.type_by-in-LengthOf.ensures c.get-in-LengthOf.ensures)))
 
 pub type_by-returns-in-ToBytes : goal.type_by-returns-in-ToBytes
-type_by-returns-in-ToBytes t c = told (ty_of c.args.db.now) _ _ _ _ c.in-ToBytes.is (ty_to_bytes c.args.db.now c.in-ToBytes.value c.in-ToBytes.size) (typed_of Buf c.typed-in-ToBytes.ensures (test_of Num c.is-in-ToBytes.ensures (of_part (ty_of c.args.db.now) c.type_by-in-ToBytes.ensures c.get-in-ToBytes.ensures)))
+type_by-returns-in-ToBytes t c = told (ty_of c.args.db.now) _ _ _ _ c.in-ToBytes.is (ty_to_bytes c.args.db.now c.in-ToBytes.value c.in-ToBytes.size) (typed_of Buf c.typed-in-ToBytes.ensures (and_of c.both-in-ToBytes.ensures (test_of Num c.is-in-ToBytes.ensures (of_part (ty_of c.args.db.now) c.type_by-in-ToBytes.ensures c.get-in-ToBytes.ensures)) c.is_size.ensures))
 
 pub type_by-returns-in-HasText : goal.type_by-returns-in-HasText
 type_by-returns-in-HasText t c = told (ty_of c.args.db.now) _ _ _ _ c.in-HasText.is (ty_has_text c.args.db.now c.in-HasText.within c.in-HasText.text) (typed_of Num c.typed-in-HasText.ensures (test_of Buf c.is-in-HasText.ensures (of_part (ty_of c.args.db.now) c.type_by-in-HasText.ensures c.get-in-HasText.ensures)))
