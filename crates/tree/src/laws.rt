@@ -1,0 +1,17 @@
+//! What the steps of a builder mean for the tree.
+ghost use Rattle.tree.specs.Laws.{NodesAddUp, BlockIsOneNode, ProtocolIsOneMore};
+
+/// Nodes that are added in two lists are added as one.
+pub fn nodes_add_up()
+    ensures { NodesAddUp }
+{}
+
+/// Opening a block, adding nodes and closing it adds one node to what was open: a block with these nodes.
+pub fn block_is_one_node()
+    ensures { BlockIsOneNode }
+{}
+
+/// Opening a protocol, adding nodes and closing it adds one protocol with these nodes.
+pub fn protocol_is_one_more()
+    ensures { ProtocolIsOneMore }
+{}
