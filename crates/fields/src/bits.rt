@@ -5,11 +5,9 @@ ghost use Rattle.db_model.specs.Numbers.{big_endian, to_bytes, bits_by};
 use arrayvec::ArrayVec;
 use db_model::MOST_BIT_SIZE;
 
-const ROOM: usize = MOST_BIT_SIZE as usize;
-
 /// The value of a bit field: the number that its bytes are, masked, and shifted right until the mask's lowest
 /// 1 stands at bit 0, in as many bytes as were read. The highest byte comes first. Takes no memory.
-pub fn bit_value(bytes: &[u8], mask: u32) -> ArrayVec<u8, ROOM>
+pub fn bit_value(bytes: &[u8], mask: u32) -> ArrayVec<u8, 4>
     requires some { 1 ≤ length bytes.now }
     requires most { length bytes.now ≤ MOST_BIT_SIZE }
     requires mask { mask ≢ 0 }
@@ -37,13 +35,13 @@ fn masked(number: u32, mask: u32) -> u32
     (number & mask) >> places
 }
 
-fn last_bytes(number: u32, count: usize) -> ArrayVec<u8, ROOM>
+fn last_bytes(number: u32, count: usize) -> ArrayVec<u8, 4>
     requires { count ≤ 4 }
     ensures { result.items ≡ to_bytes count number }
 {
     let all = number.to_be_bytes();
     let mut value = ArrayVec::new();
     // It fits, since `count` is at most 4.
-    let _ = value.try_extend_from_slice(&all[ROOM - count..]);
+    let _ = value.try_extend_from_slice(&all[4 - count..]);
     value
 }

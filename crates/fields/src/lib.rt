@@ -1,5 +1,5 @@
 //! Where a field of a packet ends, and the value of a bit field. The contracts say that both are exactly what
-//! the definitions of decoding say. A search reads each byte before the limit at most a fixed number of times.
+//! the definition of decoding says. Ends of tokens and lines are found by `memchr`, and no call takes memory.
 #![tactic(auto)]
 
 mod bits;
