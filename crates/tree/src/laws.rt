@@ -1,9 +1,14 @@
 //! What the steps of a builder mean for the tree.
-ghost use Rattle.tree.specs.Laws.{NodesAddUp, BlockIsOneNode, ProtocolIsOneMore};
+ghost use Rattle.tree.specs.Laws.{NodesAddUp, NodesKeepOpen, BlockIsOneNode, ProtocolIsOneMore};
 
 /// Nodes that are added in two lists are added as one.
 pub fn nodes_add_up()
     ensures { NodesAddUp }
+{}
+
+/// Adding nodes leaves open what is open, from where it was opened.
+pub fn nodes_keep_open()
+    ensures { NodesKeepOpen }
 {}
 
 /// Opening a block, adding nodes and closing it adds one node to what was open: a block with these nodes.
