@@ -1,0 +1,2 @@
+pub mod LawsHold
+pub mod PartsLemmas
