@@ -15,3 +15,6 @@ mod values;
 
 pub use end::EvalEnd;
 pub use evaluation::eval;
+
+#[cfg(test)]
+mod tests;
