@@ -1,0 +1,5 @@
+pub mod Bytes
+pub mod Steps
+pub mod Forms
+pub mod Walking
+pub mod NoTables

@@ -1,0 +1,213 @@
+-- How evaluations are put together.
+use Rattle.std.specs.Prelude.{◌≡◌, ℕ, zero, suc, ◌+◌, ◌<◌, Bool, true, false, ◌==◌, if◌then◌else◌, List, [], ◌∷◌, ◌++◌, map, length, drop, slice_get, Option, Some, None, Result, Ok, Err, MatchResult}
+use Rattle.std.proofs.Common.{refl, sym, ap, subst, ◌∙◌, append-nil, append_assoc, arith, get_or}
+use Rattle.std.proofs.lemmas.Bool.Decides.{Decides-eqb}
+use Rattle.db_model.specs.declared.database.Database.{Database}
+use Rattle.db_model.specs.declared.env.Env.{Env}
+use Rattle.db_model.specs.declared.no_memory.NoMemory.{NoMemory}
+use Rattle.db_model.specs.declared.packet.Packet.{Packet}
+use Rattle.db_model.specs.declared.tree.Reason.{Reason}
+use Rattle.db_model.specs.declared.value.Value.{Value}
+use Rattle.db_model.specs.Expression.{Eval, ◌>>=◌, result, num, buf, is_so, when, keys_from}
+use Rattle.db_model.specs.Fitting.{keys_room}
+use Rattle.db_model.specs.Table.{KeyList}
+use Rattle.db_model.specs.declared.tree.Reason.TheVariants as reason
+use Rattle.db_model.specs.Over.{Point, point, Ends, Leads}
+use Rattle.db_model.specs.Questions.{Gives, play, pure, on_ok}
+use Rattle.db_model.specs.Session.{Session}
+use Rattle.db_model.proofs.Over.{ends_pure, ends_gives, ends_refused, ends_first, leads_then, leads_same}
+use Rattle.expr_eval.specs.declared.end.EvalEnd.{EvalEnd}
+use Rattle.expr_eval.specs.declared.end.EvalEnd.TheVariants as end
+use Rattle.expr_eval.specs.declared.operand.Operand.{Operand}
+use Rattle.expr_eval.specs.declared.operand.Operand.TheVariants.{Own}
+use Rattle.expr_eval.specs.Operand.{shown}
+use Rattle.expr_eval.specs.Evaluates.{outcome, Stays, Evaluates, itself, Gave}
+
+stays_on : (x y z : Env) → Stays x y → Stays y z → Stays x z
+stays_on x y z h k = k ∙ ap (λ (e : Env). record e { hits = z.hits; questions = z.questions }) h
+
+-- the packet stays
+pub packet_stays : (x y : Env) → Stays x y → y.packet ≡ x.packet
+packet_stays x y h = ap (λ (e : Env). e.packet) h
+
+module _ {A B : Type 0} (db : Database) where
+  -- a computation that is another one from where it begins
+  pub same : {p q : Eval A} {f : List ℕ → B → A} {m n : Point Env} {o : Result B EvalEnd} → p m.held ≡ q m.held → Evaluates db q f m o n → Evaluates db p f m o n
+  same {p} {q} {f} {m} {n} {o} e h = record { ends = (leads_same db m.held.packet.stamp p q m e).leads (outcome (f m.held.packet.bytes) o) n h.ends; stays = h.stays }
+
+  -- a result that is there
+  pub gives : {f : List ℕ → B → A} {m : Point Env} {o : Result B EvalEnd} (r : Result A Reason) → Gave (f m.held.packet.bytes) r o → Evaluates db (result r) f m o m
+  gives {f} {m} {o} r h = by o h
+    where
+      by : (o : Result B EvalEnd) → Gave (f m.held.packet.bytes) r o → Evaluates db (result r) f m o m
+      by (Ok b) h = record { ends = subst (λ (x : Result A Reason). Ends db m.held.packet.stamp (pure x) m (Ok (Ok (f m.held.packet.bytes b))) m) (sym h) (ends_pure db m.held.packet.stamp (Ok (f m.held.packet.bytes b)) m.held m.content m.told); stays = refl }
+      by (Err (end.Fault r')) h = record { ends = subst (λ (x : Result A Reason). Ends db m.held.packet.stamp (pure x) m (Ok (Err r')) m) (sym h) (ends_pure db m.held.packet.stamp (Err r') m.held m.content m.told); stays = refl }
+      by (Err end.NoMemory) h = record { ends = ends_refused db m.held.packet.stamp (result r) (record {}) m.held m.held m.content m.told; stays = refl }
+
+  -- memory refused before anything was asked
+  pub refused : {f : List ℕ → B → A} {m : Point Env} (p : Eval A) → Evaluates db p f m (Err end.NoMemory) m
+  refused {f} {m} p = record { ends = ends_refused db m.held.packet.stamp p (record {}) m.held m.held m.content m.told; stays = refl }
+
+module _ {A B C D : Type 0} (db : Database) where
+  -- after the first part, the rest is what follows its value
+  pub then_ok : {p : Eval A} (g : A → Eval C) {f : List ℕ → B → A} {h : List ℕ → D → C} {m n k : Point Env} {o : Result D EvalEnd} (b : B) → Evaluates db p f m (Ok b) n → Evaluates db (g (f m.held.packet.bytes b)) h n o k → Evaluates db (p >>= g) h m o k
+  then_ok {p} g {f} {h} {m} {n} {k} {o} b x y = record {
+    ends = (leads_then db m.held.packet.stamp p (on_ok g) m n (Ok (f m.held.packet.bytes b)) x.ends).leads (outcome (h m.held.packet.bytes) o) k
+        (subst (λ (q : Packet). Ends db q.stamp (g (f m.held.packet.bytes b)) n (outcome (h q.bytes) o) k) (packet_stays m.held n.held x.stays) y.ends);
+    stays = stays_on m.held n.held k.held x.stays y.stays;
+  }
+
+  -- the first reason is the reason of the whole
+  pub then_err : {p : Eval A} (g : A → Eval C) {f : List ℕ → B → A} {h : List ℕ → D → C} {m n : Point Env} (e : EvalEnd) → Evaluates db p f m (Err e) n → Evaluates db (p >>= g) h m (Err e) n
+  then_err {p} g {f} {h} {m} {n} (end.Fault r) x = record {
+    ends = (leads_then db m.held.packet.stamp p (on_ok g) m n (Err r) x.ends).leads (Ok (Err r)) n (ends_pure db m.held.packet.stamp (Err r) n.held n.content n.told);
+    stays = x.stays;
+  }
+  then_err {p} g {f} {h} {m} {n} end.NoMemory x = record { ends = ends_first db m.held.packet.stamp p (on_ok g) m n (record {}) x.ends; stays = x.stays }
+
+-- ---- answers that stand for values
+
+module _ (db : Database) where
+  -- the same computation, and the same answer
+  pub same_as : {A B : Type 0} {p q : Eval A} {f : List ℕ → B → A} {m n : Point Env} {o : Result B EvalEnd} → p ≡ q → Evaluates db q f m o n → Evaluates db p f m o n
+  same_as {m = m} e h = same db (ap (λ r. r m.held) e) h
+
+  pub recast : {A B : Type 0} {p : Eval A} {f : List ℕ → B → A} {m n : Point Env} {o o' : Result B EvalEnd} → o ≡ o' → Evaluates db p f m o' n → Evaluates db p f m o n
+  recast {p = p} {f = f} {m = m} {n = n} e h = subst (λ o. Evaluates db p f m o n) (sym e) h
+
+  -- an answer that is known at the first state, or at the last
+  pub finish_1 : {p : Eval Value} {m n : Point Env} {o : Result Operand EvalEnd} (d : Value → Result Value Reason) (x : Operand) → Evaluates db p shown m (Ok x) n → Gave (shown n.held.packet.bytes) (d (shown n.held.packet.bytes x)) o → Evaluates db (p >>= (λ v. result (d v))) shown m o n
+  finish_1 {p} {m} {n} {o} d x h g =
+      then_ok db (λ v. result (d v)) x h (gives db (d (shown m.held.packet.bytes x))
+      (subst (λ (q : Packet). Gave (shown n.held.packet.bytes) (d (shown q.bytes x)) o) (packet_stays m.held n.held h.stays) g))
+
+  pub finish_2 : {p q : Eval Value} {m n k : Point Env} {o : Result Operand EvalEnd} (d : Value → Value → Result Value Reason) (x y : Operand) → Evaluates db p shown m (Ok x) n → Evaluates db q shown n (Ok y) k
+      → Gave (shown k.held.packet.bytes) (d (shown k.held.packet.bytes x) (shown k.held.packet.bytes y)) o → Evaluates db (p >>= (λ v. q >>= (λ w. result (d v w)))) shown m o k
+  finish_2 {p} {q} {m} {n} {k} {o} d x y h i g =
+      then_ok db (λ v. q >>= (λ w. result (d v w))) x h (finish_1 (d (shown m.held.packet.bytes x)) y i
+      (subst (λ (r : Packet). Gave (shown k.held.packet.bytes) (d (shown r.bytes x) (shown k.held.packet.bytes y)) o) (packet_stays n.held k.held i.stays ∙ packet_stays m.held n.held h.stays) g))
+
+  pub finish_3 : {p q r : Eval Value} {m n k l : Point Env} {o : Result Operand EvalEnd} (d : Value → Value → Value → Result Value Reason) (x y z : Operand) → Evaluates db p shown m (Ok x) n → Evaluates db q shown n (Ok y) k → Evaluates db r shown k (Ok z) l
+      → Gave (shown l.held.packet.bytes) (d (shown l.held.packet.bytes x) (shown l.held.packet.bytes y) (shown l.held.packet.bytes z)) o → Evaluates db (p >>= (λ v. q >>= (λ w. r >>= (λ u. result (d v w u))))) shown m o l
+  finish_3 {p} {q} {r} {m} {n} {k} {l} {o} d x y z h i j g =
+      then_ok db (λ v. q >>= (λ w. r >>= (λ u. result (d v w u)))) x h (finish_2 (d (shown m.held.packet.bytes x)) y z i j
+      (subst (λ (s : Packet). Gave (shown l.held.packet.bytes) (d (shown s.bytes x) (shown l.held.packet.bytes y) (shown l.held.packet.bytes z)) o)
+      (packet_stays k.held l.held j.stays ∙ packet_stays n.held k.held i.stays ∙ packet_stays m.held n.held h.stays) g))
+
+  -- a value decides what follows
+  pub then_so : {p q : Eval Value} (r : Eval Value) {m n k : Point Env} {o : Result Operand EvalEnd} (x : Operand) → Evaluates db p shown m (Ok x) n → is_so (num (shown m.held.packet.bytes x)) ≡ true → Evaluates db q shown n o k → Evaluates db (p >>= (λ v. if is_so (num v) then q else r)) shown m o k
+  then_so {p} {q} r {m} {n} {k} {o} x h b i =
+      then_ok db (λ v. if is_so (num v) then q else r) x h (subst (λ (c : Bool). Evaluates db (if c then q else r) shown n o k) (sym b) i)
+
+  pub then_not : {p r : Eval Value} (q : Eval Value) {m n k : Point Env} {o : Result Operand EvalEnd} (x : Operand) → Evaluates db p shown m (Ok x) n → is_so (num (shown m.held.packet.bytes x)) ≡ false → Evaluates db r shown n o k → Evaluates db (p >>= (λ v. if is_so (num v) then q else r)) shown m o k
+  then_not {p} {r} q {m} {n} {k} {o} x h b i =
+      then_ok db (λ v. if is_so (num v) then q else r) x h (subst (λ (c : Bool). Evaluates db (if c then q else r) shown n o k) (sym b) i)
+
+  -- memory refused after the whole was done
+  pub refused_after : {A B C : Type 0} {p : Eval A} {f : List ℕ → B → A} (h : List ℕ → C → A) {m n : Point Env} (b : B) → Evaluates db p f m (Ok b) n → Evaluates db p h m (Err end.NoMemory) n
+  refused_after {p = p} h {m} {n} b x = record {
+    ends = record { ends = record { done = (play db m.held.packet.stamp (p m.held) m.content).log; rest = []; is_prefix = sym (append-nil (play db m.held.packet.stamp (p m.held) m.content).log); follows = x.ends.ends.follows } };
+    stays = x.stays;
+  }
+
+  pub kept : {A B C : Type 0} {p : Eval A} {f : List ℕ → B → A} (h : List ℕ → C → A) {m n : Point Env} (b : B) (c : C) → f m.held.packet.bytes b ≡ h m.held.packet.bytes c → Evaluates db p f m (Ok b) n → Evaluates db p h m (Ok c) n
+  kept {p = p} h {m} {n} b c e x = record { ends = subst (λ v. Ends db m.held.packet.stamp p m (Ok (Ok v)) n) e x.ends; stays = x.stays }
+
+-- an answer that gives no value stands for itself
+pub unvalued : (db : Database) {A B C : Type 0} {p : Eval A} (f : List ℕ → B → A) {h : List ℕ → C → A} {m n : Point Env} (e : EvalEnd) → Evaluates db p f m (Err e) n → Evaluates db p h m (Err e) n
+unvalued db f (end.Fault r) x = record { ends = x.ends; stays = x.stays }
+unvalued db f end.NoMemory x = record { ends = x.ends; stays = x.stays }
+
+-- an operand is handed out as its value, unless memory for it is refused
+pub handed : (db : Database) {p : Eval Value} {m n : Point Env} (x : Operand) (o : Result Value EvalEnd) → Evaluates db p shown m (Ok x) n → MatchResult o (λ v. v ≡ shown n.held.packet.bytes x) (λ e. e ≡ end.NoMemory) → Evaluates db p itself m o n
+handed db {p} {m} {n} x (Ok v) h e = kept db itself x v (sym (e ∙ ap (λ (q : Packet). shown q.bytes x) (packet_stays m.held n.held h.stays))) h
+handed db {p} {m} {n} x (Err e) h r = recast db (ap Err r) (refused_after db itself x h)
+
+-- an operand that is a value of its own
+pub own_is : (packet : List ℕ) (v : Value) (x : Operand) → x ≡ Own v → Gave (shown packet) (Ok v) (Ok x)
+own_is packet v x e = ap (λ (y : Operand). Ok (shown packet y)) (sym e)
+
+-- ---- the keys of a look-up
+
+-- what is there of the keys: whatever the rest does, the whole does; and with any further keys that have room, all have
+pub record Keys_so_far (db : Database) (sizes : List ℕ) (parts : List (Eval Value)) (m : Point Env) (keys : KeyList) (left : List ℕ) (rest : List (Eval Value)) (n : Point Env) : Type 0 where
+  pub goes : (o : Result KeyList EvalEnd) (k : Point Env) → Evaluates db (keys_from keys left rest) itself n o k → Evaluates db (keys_from [] sizes parts) itself m o k
+  pub room : (more : KeyList) → keys_room left more ≡ true → keys_room sizes (keys ++ more) ≡ true
+
+pub no_keys_yet : (db : Database) (sizes : List ℕ) (parts : List (Eval Value)) (m : Point Env) → Keys_so_far db sizes parts m [] sizes parts m
+no_keys_yet db sizes parts m = record { goes = λ o k h. h; room = λ more h. h }
+
+-- a key that is checked right after it is evaluated
+abbrev pub checked_key : ℕ → Value → Result (List ℕ) Reason
+checked_key size v = when (length (buf v) == size) reason.KeySize (buf v)
+
+module _ (db : Database) (sizes : List ℕ) (parts : List (Eval Value)) (m : Point Env) (keys : KeyList) (size : ℕ) (left : List ℕ) (p : Eval Value) (rest : List (Eval Value)) (n : Point Env) where
+  -- its evaluation gave no value
+  pub key_unevaluated : (e : EvalEnd) (k : Point Env) → Keys_so_far db sizes parts m keys (size ∷ left) (p ∷ rest) n → Evaluates db p shown n (Err e) k → Evaluates db (keys_from [] sizes parts) itself m (Err e) k
+  key_unevaluated e k s h = s.goes (Err e) k (then_err db _ e h)
+
+  -- it has a wrong size, or memory for it was refused
+  pub key_unmade : (x : Operand) (e : EvalEnd) (k : Point Env) → Keys_so_far db sizes parts m keys (size ∷ left) (p ∷ rest) n → Evaluates db p shown n (Ok x) k → Gave (λ (b : List ℕ). b) (checked_key size (shown k.held.packet.bytes x)) (Err e)
+      → Evaluates db (keys_from [] sizes parts) itself m (Err e) k
+  key_unmade x e k s h g =
+      s.goes (Err e) k (then_ok db _ x h (then_err db _ {f = itself} e (gives db (checked_key size (shown n.held.packet.bytes x))
+      (subst (λ (q : Packet). Gave (λ (b : List ℕ). b) (checked_key size (shown q.bytes x)) (Err e)) (packet_stays n.held k.held h.stays) g))))
+
+  pub key_made : (x : Operand) (key : List ℕ) (k : Point Env) → Keys_so_far db sizes parts m keys (size ∷ left) (p ∷ rest) n → Evaluates db p shown n (Ok x) k → Gave (λ (b : List ℕ). b) (checked_key size (shown k.held.packet.bytes x)) (Ok key)
+      → Keys_so_far db sizes parts m (keys ++ key ∷ []) left rest k
+  key_made x key k s h g = record {
+    goes = λ o l r. s.goes o l (then_ok db _ x h (then_ok db (λ (b : List ℕ). keys_from (keys ++ b ∷ []) left rest) {f = itself} key (gives db (checked_key size (shown n.held.packet.bytes x))
+        (subst (λ (q : Packet). Gave (λ (b : List ℕ). b) (checked_key size (shown q.bytes x)) (Ok key)) (packet_stays n.held k.held h.stays) g)) r));
+    room = λ more r. subst (λ l. keys_room sizes l ≡ true) (sym (append_assoc keys (key ∷ []) more)) (s.room (key ∷ more) (fits key more (size_of g) r));
+  }
+    where
+      by : (b : Bool) (v : List ℕ) → (length v == size) ≡ b → when b reason.KeySize v ≡ Ok key → length key ≡ size
+      by true v e g = let same : v ≡ key = cc in ap length (sym same) ∙ (Decides-eqb (length v) size).0 e
+      by false v e g = (cc)
+
+      size_of : checked_key size (shown k.held.packet.bytes x) ≡ Ok key → length key ≡ size
+      size_of g = by (length (buf (shown k.held.packet.bytes x)) == size) (buf (shown k.held.packet.bytes x)) refl g
+
+      fits : (key : List ℕ) (more : KeyList) → length key ≡ size → keys_room left more ≡ true → keys_room (size ∷ left) (key ∷ more) ≡ true
+      fits key more e r = (grind (arith, e, r))
+
+-- all keys are there where no size is left, or no part
+pub keys_end_sizes : (db : Database) (sizes : List ℕ) (parts : List (Eval Value)) (m : Point Env) (keys : KeyList) (rest : List (Eval Value)) (n : Point Env) → Keys_so_far db sizes parts m keys [] rest n → Evaluates db (keys_from [] sizes parts) itself m (Ok keys) n
+keys_end_sizes db sizes parts m keys rest n s = s.goes (Ok keys) n (gives db (Ok keys) refl)
+
+pub keys_end_parts : (db : Database) (sizes : List ℕ) (parts : List (Eval Value)) (m : Point Env) (keys : KeyList) (left : List ℕ) (n : Point Env) → Keys_so_far db sizes parts m keys left [] n → Evaluates db (keys_from [] sizes parts) itself m (Ok keys) n
+keys_end_parts db sizes parts m keys left n s = s.goes (Ok keys) n (by left)
+  where
+    by : (l : List ℕ) → Evaluates db (keys_from keys l []) itself n (Ok keys) n
+    by [] = gives db (Ok keys) refl
+    by (x ∷ xs) = gives db (Ok keys) refl
+
+pub keys_have_room : (db : Database) (sizes : List ℕ) (parts : List (Eval Value)) (m : Point Env) (keys : KeyList) (left : List ℕ) (rest : List (Eval Value)) (n : Point Env) → Keys_so_far db sizes parts m keys left rest n → keys_room sizes keys ≡ true
+keys_have_room db sizes parts m keys left rest n s = subst (λ l. keys_room sizes l ≡ true) (append-nil keys) (s.room [] refl)
+
+-- the rest of a mapped list from a place on
+pub drop_some : {A B : Type 0} (f : A → B) (xs : List A) (i : ℕ) (x : A) → slice_get xs i ≡ Some x → drop i (map f xs) ≡ f x ∷ drop (i + 1) (map f xs)
+drop_some f [] i x e = (cc)
+drop_some f (y ∷ ys) zero x e = let same : y ≡ x = cc in ap (λ z. f z ∷ map f ys) same
+drop_some f (y ∷ ys) (suc i) x e = let k : suc (i + 1) ≡ suc i + 1 = omega arith in drop_some f ys i x e ∙ ap (λ n. f x ∷ drop n (f y ∷ map f ys)) k
+
+pub drop_past : {A B : Type 0} (f : A → B) (xs : List A) (i : ℕ) → slice_get xs i ≡ None → drop i (map f xs) ≡ []
+drop_past f [] zero e = refl
+drop_past f [] (suc i) e = refl
+drop_past f (y ∷ ys) zero e = (cc)
+drop_past f (y ∷ ys) (suc i) e = drop_past f ys i e
+
+pub drop_all : {A B : Type 0} (f : A → B) (xs : List A) → drop (length xs) (map f xs) ≡ []
+drop_all f [] = refl
+drop_all f (x ∷ xs) = drop_all f xs
+
+pub drop_at : {A B : Type 0} (f : A → B) (xs : List A) (i : ℕ) (x : A) → i < length xs → x ≡ get_or xs i x → drop i (map f xs) ≡ f x ∷ drop (i + 1) (map f xs)
+drop_at f [] i x l e = absurd (omega arith)
+drop_at f (y ∷ ys) zero x l e = ap (λ z. f z ∷ map f ys) (sym e)
+drop_at f (y ∷ ys) (suc i) x l e = let k : suc (i + 1) ≡ suc i + 1 = omega arith in drop_at f ys i x (omega arith) e ∙ ap (λ n. f x ∷ drop n (f y ∷ map f ys)) k
+
+-- the next key and the next part, at a place of the whole lists
+pub keys_at : (db : Database) (sizes : List ℕ) (parts : List (Eval Value)) (m : Point Env) (keys : KeyList) (i size : ℕ) (p : Eval Value) (n : Point Env) → drop i sizes ≡ size ∷ drop (i + 1) sizes → drop i parts ≡ p ∷ drop (i + 1) parts
+    → Keys_so_far db sizes parts m keys (drop i sizes) (drop i parts) n → Keys_so_far db sizes parts m keys (size ∷ drop (i + 1) sizes) (p ∷ drop (i + 1) parts) n
+keys_at db sizes parts m keys i size p n e f s =
+    subst (λ (l : List ℕ). Keys_so_far db sizes parts m keys l (p ∷ drop (i + 1) parts) n) e (subst (λ (r : List (Eval Value)). Keys_so_far db sizes parts m keys (drop i sizes) r n) f s)

@@ -1,0 +1,376 @@
+use Rattle.std.proofs.Common.{◌≡◌, ◌∙◌, sym, ap, refl, rules, ℕ, List, map, Bool, true, false, not, length, Ok, Err, Result, None, Some, slice_get, drop, [], ◌+◌, subst, arith}
+use Rattle.db_model.specs.declared.tree.Reason.{Reason}
+use Rattle.db_model.specs.declared.value.Value.{Value}
+use Rattle.db_model.specs.declared.value.Value.TheVariants.{Num, Buf, Proto}
+use Rattle.db_model.specs.Expression as def
+use Rattle.db_model.specs.declared.database.KeyDecl.{KeyDecl}
+use Rattle.db_model.specs.Over.{point}
+use Rattle.db_model.specs.Special.{special}
+use Rattle.expr_eval.specs.declared.end.EvalEnd.TheVariants.{NoMemory as Refused}
+use Rattle.db_model.specs.Expression.{Eval, key_sizes, num, buf, truth, is_so, last_of, val, give}
+use Rattle.db_model.specs.Names.{Text, protocol_at, table_at, column_at}
+use Rattle.db_model.specs.Numbers.{occurs}
+use Rattle.db_model.specs.Numbering.{names_of_protocol}
+use Rattle.expr_eval.specs.declared.operand.Operand.{Operand}
+use Rattle.expr_eval.specs.declared.operand.Operand.TheVariants.{Own}
+use Rattle.expr_eval.specs.Operand.{shown}
+use Rattle.expr_eval.specs.Evaluates.{Evaluates, Gave}
+use Rattle.expr_eval.specs.Reads.{field_value, variable_value, column_value}
+use Rattle.expr_eval.proofs.Forms.{not_is, and_is, or_is, binary_is, slice_is, to_number_is, length_is, to_bytes_is, has_text_is, look_up_is, number_is, text_is, protocol_is, field_is, variable_is, column_is, is_present_is}
+use Rattle.expr_eval.proofs.Steps.{same, same_as, recast, gives, refused, then_ok, then_err, then_so, then_not, finish_1, finish_2, finish_3, own_is, Keys_so_far, no_keys_yet, key_unevaluated, key_unmade, key_made, keys_end_sizes, keys_end_parts, keys_have_room, drop_some, drop_past, drop_all, drop_at, keys_at}
+use Rattle.expr_eval.proofs.evaluation.+parts.Goals as goal
+
+pub evaluate-returns-in_err-x-in-Not-clause-value : goal.evaluate-returns-in_err-x-in-Not-clause-value
+evaluate-returns-in_err-x-in-Not-clause-value g t c =
+    let db = c.args.db.now in
+    let names = names_of_protocol db c.args.protocol in
+    let r : c.from_residual.result ≡ Err c.in_err-x-in-Not.field-0.0 = search rules in
+    recast db r (same_as db (not_is db names c.args.e.now c.in-Not.x c.get.result.now c.in-Not.is c.get.ensures) (then_err db _ c.in_err-x-in-Not.field-0.0 c.in_err-x-in-Not.ensures.value))
+
+pub evaluate-returns-in_err-x-in-ToNumber-clause-value : goal.evaluate-returns-in_err-x-in-ToNumber-clause-value
+evaluate-returns-in_err-x-in-ToNumber-clause-value g t c =
+    let db = c.args.db.now in
+    let names = names_of_protocol db c.args.protocol in
+    let r : c.from_residual-in_err-x-in-ToNumber.result ≡ Err c.in_err-x-in-ToNumber.field-0.0 = search rules in
+    recast db r (same_as db (to_number_is db names c.args.e.now c.in-ToNumber.x c.get-in-ToNumber.result.now c.in-ToNumber.is c.get-in-ToNumber.ensures) (then_err db _ c.in_err-x-in-ToNumber.field-0.0 c.in_err-x-in-ToNumber.ensures.value))
+
+pub evaluate-returns-in_err-x-in-LengthOf-clause-value : goal.evaluate-returns-in_err-x-in-LengthOf-clause-value
+evaluate-returns-in_err-x-in-LengthOf-clause-value g t c =
+    let db = c.args.db.now in
+    let names = names_of_protocol db c.args.protocol in
+    let r : c.from_residual-in_err-x-in-LengthOf.result ≡ Err c.in_err-x-in-LengthOf.field-0.0 = search rules in
+    recast db r (same_as db (length_is db names c.args.e.now c.in-LengthOf.x c.get-in-LengthOf.result.now c.in-LengthOf.is c.get-in-LengthOf.ensures) (then_err db _ c.in_err-x-in-LengthOf.field-0.0 c.in_err-x-in-LengthOf.ensures.value))
+
+pub evaluate-returns-in_err-x-in-ToBytes-clause-value : goal.evaluate-returns-in_err-x-in-ToBytes-clause-value
+evaluate-returns-in_err-x-in-ToBytes-clause-value g t c =
+    let db = c.args.db.now in
+    let names = names_of_protocol db c.args.protocol in
+    let r : c.from_residual-in_err-x-in-ToBytes.result ≡ Err c.in_err-x-in-ToBytes.field-0.0 = search rules in
+    recast db r (same_as db (to_bytes_is db names c.args.e.now c.in-ToBytes.value c.get-in-ToBytes.result.now c.in-ToBytes.size c.in-ToBytes.is c.get-in-ToBytes.ensures) (then_err db _ c.in_err-x-in-ToBytes.field-0.0 c.in_err-x-in-ToBytes.ensures.value))
+
+pub evaluate-returns-in_err-x-in-HasText-clause-value : goal.evaluate-returns-in_err-x-in-HasText-clause-value
+evaluate-returns-in_err-x-in-HasText-clause-value g t c =
+    let db = c.args.db.now in
+    let names = names_of_protocol db c.args.protocol in
+    let r : c.from_residual-in_err-x-in-HasText.result ≡ Err c.in_err-x-in-HasText.field-0.0 = search rules in
+    recast db r (same_as db (has_text_is db names c.args.e.now c.in-HasText.within c.get-in-HasText.result.now c.in-HasText.text c.in-HasText.is c.get-in-HasText.ensures) (then_err db _ c.in_err-x-in-HasText.field-0.0 c.in_err-x-in-HasText.ensures.value))
+
+pub evaluate-returns-in_err-x-in-And-clause-value : goal.evaluate-returns-in_err-x-in-And-clause-value
+evaluate-returns-in_err-x-in-And-clause-value g t c =
+    let db = c.args.db.now in
+    let names = names_of_protocol db c.args.protocol in
+    let r : c.from_residual-in_err-x-in-And.result ≡ Err c.in_err-x-in-And.field-0.0 = search rules in
+    recast db r (same_as db (and_is db names c.args.e.now c.in-And.x c.in-And.y c.get-in-And.result.now c.in-And.y c.in-And.is c.get-in-And.ensures refl) (then_err db _ c.in_err-x-in-And.field-0.0 c.in_err-x-in-And.ensures.value))
+
+pub evaluate-returns-in_err-x-in-Or-clause-value : goal.evaluate-returns-in_err-x-in-Or-clause-value
+evaluate-returns-in_err-x-in-Or-clause-value g t c =
+    let db = c.args.db.now in
+    let names = names_of_protocol db c.args.protocol in
+    let r : c.from_residual-in_err-x-in-Or.result ≡ Err c.in_err-x-in-Or.field-0.0 = search rules in
+    recast db r (same_as db (or_is db names c.args.e.now c.in-Or.x c.in-Or.y c.get-in-Or.result.now c.in-Or.y c.in-Or.is c.get-in-Or.ensures refl) (then_err db _ c.in_err-x-in-Or.field-0.0 c.in_err-x-in-Or.ensures.value))
+
+pub evaluate-returns-in_err-x-in-Binary-clause-value : goal.evaluate-returns-in_err-x-in-Binary-clause-value
+evaluate-returns-in_err-x-in-Binary-clause-value g t c =
+    let db = c.args.db.now in
+    let names = names_of_protocol db c.args.protocol in
+    let r : c.from_residual-in_err-x-in-Binary.result ≡ Err c.in_err-x-in-Binary.field-0.0 = search rules in
+    recast db r (same_as db (binary_is db names c.args.e.now c.in-Binary.x c.in-Binary.y c.get-in-Binary.result.now c.in-Binary.y c.in-Binary.op c.in-Binary.is c.get-in-Binary.ensures refl) (then_err db _ c.in_err-x-in-Binary.field-0.0 c.in_err-x-in-Binary.ensures.value))
+
+pub evaluate-returns-in_err-y-in-Binary-clause-value : goal.evaluate-returns-in_err-y-in-Binary-clause-value
+evaluate-returns-in_err-y-in-Binary-clause-value g t c =
+    let db = c.args.db.now in
+    let names = names_of_protocol db c.args.protocol in
+    let r : c.from_residual-in_err-y-in-Binary.result ≡ Err c.in_err-y-in-Binary.field-0.0 = search rules in
+    recast db r (same_as db (binary_is db names c.args.e.now c.in-Binary.x c.in-Binary.y c.get-in-Binary.result.now c.get-in-Binary-2.result.now c.in-Binary.op c.in-Binary.is c.get-in-Binary.ensures c.get-in-Binary-2.ensures) (then_ok db _ c.in_ok-x-in-Binary.x c.in_ok-x-in-Binary.ensures.value (then_err db _ c.in_err-y-in-Binary.field-0.0 c.in_err-y-in-Binary.ensures.value)))
+
+pub evaluate-returns-then-not-is_so-clause-value : goal.evaluate-returns-then-not-is_so-clause-value
+evaluate-returns-then-not-is_so-clause-value g t c =
+    let db = c.args.db.now in
+    let names = names_of_protocol db c.args.protocol in
+    let b : is_so (num (shown c.args.env.now.packet.bytes c.in_ok-x-in-And.x)) ≡ false = sym (c.is_so-in-And.ensures c.args.env.now.packet.bytes) ∙ c.if-not-is_so.true in
+    same_as db (and_is db names c.args.e.now c.in-And.x c.in-And.y c.get-in-And.result.now c.in-And.y c.in-And.is c.get-in-And.ensures refl) (then_not db _ c.in_ok-x-in-And.x c.in_ok-x-in-And.ensures.value b (gives db (Ok (Num 0)) (own_is _ (Num 0) _ c.of_number-then-not-is_so.ensures)))
+
+pub evaluate-returns-in_err-y-in-And-clause-value : goal.evaluate-returns-in_err-y-in-And-clause-value
+evaluate-returns-in_err-y-in-And-clause-value g t c =
+    let db = c.args.db.now in
+    let names = names_of_protocol db c.args.protocol in
+    let r : c.from_residual-in_err-y-in-And.result ≡ Err c.in_err-y-in-And.field-0.0 = search rules in
+    let b : is_so (num (shown c.args.env.now.packet.bytes c.in_ok-x-in-And.x)) ≡ true = sym (c.is_so-in-And.ensures c.args.env.now.packet.bytes) ∙ c.if-not-is_so.false in
+    recast db r (same_as db (and_is db names c.args.e.now c.in-And.x c.in-And.y c.get-in-And.result.now c.get-in-And-2.result.now c.in-And.is c.get-in-And.ensures c.get-in-And-2.ensures) (then_so db _ c.in_ok-x-in-And.x c.in_ok-x-in-And.ensures.value b (then_err db _ c.in_err-y-in-And.field-0.0 c.in_err-y-in-And.ensures.value)))
+
+pub evaluate-returns-in_ok-y-in-And-clause-value : goal.evaluate-returns-in_ok-y-in-And-clause-value
+evaluate-returns-in_ok-y-in-And-clause-value g t c =
+    let db = c.args.db.now in
+    let names = names_of_protocol db c.args.protocol in
+    let b : is_so (num (shown c.args.env.now.packet.bytes c.in_ok-x-in-And.x)) ≡ true = sym (c.is_so-in-And.ensures c.args.env.now.packet.bytes) ∙ c.if-not-is_so.false in
+    same_as db (and_is db names c.args.e.now c.in-And.x c.in-And.y c.get-in-And.result.now c.get-in-And-2.result.now c.in-And.is c.get-in-And.ensures c.get-in-And-2.ensures) (then_so db _ c.in_ok-x-in-And.x c.in_ok-x-in-And.ensures.value b (finish_1 db (λ v. Ok (truth (is_so (num v)))) c.in_ok-y-in-And.y c.in_ok-y-in-And.ensures.value (own_is _ _ _ (c.of_truth-in-And.ensures ∙ ap (λ (b : Bool). Own (truth b)) (c.is_so-in-And-2.ensures c.evaluate-in-And-2.new.env.packet.bytes)))))
+
+pub evaluate-returns-then-is_so-clause-value : goal.evaluate-returns-then-is_so-clause-value
+evaluate-returns-then-is_so-clause-value g t c =
+    let db = c.args.db.now in
+    let names = names_of_protocol db c.args.protocol in
+    let b : is_so (num (shown c.args.env.now.packet.bytes c.in_ok-x-in-Or.x)) ≡ true = sym (c.is_so-in-Or.ensures c.args.env.now.packet.bytes) ∙ c.if-is_so.true in
+    same_as db (or_is db names c.args.e.now c.in-Or.x c.in-Or.y c.get-in-Or.result.now c.in-Or.y c.in-Or.is c.get-in-Or.ensures refl) (then_so db _ c.in_ok-x-in-Or.x c.in_ok-x-in-Or.ensures.value b (gives db (Ok (Num 1)) (own_is _ (Num 1) _ c.of_number-then-is_so.ensures)))
+
+pub evaluate-returns-in_err-y-in-Or-clause-value : goal.evaluate-returns-in_err-y-in-Or-clause-value
+evaluate-returns-in_err-y-in-Or-clause-value g t c =
+    let db = c.args.db.now in
+    let names = names_of_protocol db c.args.protocol in
+    let r : c.from_residual-in_err-y-in-Or.result ≡ Err c.in_err-y-in-Or.field-0.0 = search rules in
+    let b : is_so (num (shown c.args.env.now.packet.bytes c.in_ok-x-in-Or.x)) ≡ false = sym (c.is_so-in-Or.ensures c.args.env.now.packet.bytes) ∙ c.if-is_so.false in
+    recast db r (same_as db (or_is db names c.args.e.now c.in-Or.x c.in-Or.y c.get-in-Or.result.now c.get-in-Or-2.result.now c.in-Or.is c.get-in-Or.ensures c.get-in-Or-2.ensures) (then_not db _ c.in_ok-x-in-Or.x c.in_ok-x-in-Or.ensures.value b (then_err db _ c.in_err-y-in-Or.field-0.0 c.in_err-y-in-Or.ensures.value)))
+
+pub evaluate-returns-in_ok-y-in-Or-clause-value : goal.evaluate-returns-in_ok-y-in-Or-clause-value
+evaluate-returns-in_ok-y-in-Or-clause-value g t c =
+    let db = c.args.db.now in
+    let names = names_of_protocol db c.args.protocol in
+    let b : is_so (num (shown c.args.env.now.packet.bytes c.in_ok-x-in-Or.x)) ≡ false = sym (c.is_so-in-Or.ensures c.args.env.now.packet.bytes) ∙ c.if-is_so.false in
+    same_as db (or_is db names c.args.e.now c.in-Or.x c.in-Or.y c.get-in-Or.result.now c.get-in-Or-2.result.now c.in-Or.is c.get-in-Or.ensures c.get-in-Or-2.ensures) (then_not db _ c.in_ok-x-in-Or.x c.in_ok-x-in-Or.ensures.value b (finish_1 db (λ v. Ok (truth (is_so (num v)))) c.in_ok-y-in-Or.y c.in_ok-y-in-Or.ensures.value (own_is _ _ _ (c.of_truth-in-Or.ensures ∙ ap (λ (b : Bool). Own (truth b)) (c.is_so-in-Or-2.ensures c.evaluate-in-Or-2.new.env.packet.bytes)))))
+
+pub evaluate-returns-in_ok-y-in-Binary-clause-value : goal.evaluate-returns-in_ok-y-in-Binary-clause-value
+evaluate-returns-in_ok-y-in-Binary-clause-value g t c =
+    let db = c.args.db.now in
+    let names = names_of_protocol db c.args.protocol in
+    same_as db (binary_is db names c.args.e.now c.in-Binary.x c.in-Binary.y c.get-in-Binary.result.now c.get-in-Binary-2.result.now c.in-Binary.op c.in-Binary.is c.get-in-Binary.ensures c.get-in-Binary-2.ensures) (finish_2 db (def.binary c.in-Binary.op) c.in_ok-x-in-Binary.x c.in_ok-y-in-Binary.y c.in_ok-x-in-Binary.ensures.value c.in_ok-y-in-Binary.ensures.value c.binary.ensures)
+
+pub evaluate-returns-in_err-base-in-Slice-clause-value : goal.evaluate-returns-in_err-base-in-Slice-clause-value
+evaluate-returns-in_err-base-in-Slice-clause-value g t c =
+    let db = c.args.db.now in
+    let names = names_of_protocol db c.args.protocol in
+    let r : c.from_residual-in_err-base-in-Slice.result ≡ Err c.in_err-base-in-Slice.field-0.0 = search rules in
+    recast db r (same_as db (slice_is db names c.args.e.now c.in-Slice.base c.in-Slice.from c.in-Slice.count c.get-in-Slice.result.now c.in-Slice.from c.in-Slice.count c.in-Slice.is c.get-in-Slice.ensures refl refl) (then_err db _ c.in_err-base-in-Slice.field-0.0 c.in_err-base-in-Slice.ensures.value))
+
+pub evaluate-returns-in_err-from-in-Slice-clause-value : goal.evaluate-returns-in_err-from-in-Slice-clause-value
+evaluate-returns-in_err-from-in-Slice-clause-value g t c =
+    let db = c.args.db.now in
+    let names = names_of_protocol db c.args.protocol in
+    let r : c.from_residual-in_err-from-in-Slice.result ≡ Err c.in_err-from-in-Slice.field-0.0 = search rules in
+    recast db r (same_as db (slice_is db names c.args.e.now c.in-Slice.base c.in-Slice.from c.in-Slice.count c.get-in-Slice.result.now c.get-in-Slice-2.result.now c.in-Slice.count c.in-Slice.is c.get-in-Slice.ensures c.get-in-Slice-2.ensures refl) (then_ok db _ c.in_ok-base-in-Slice.base c.in_ok-base-in-Slice.ensures.value (then_err db _ c.in_err-from-in-Slice.field-0.0 c.in_err-from-in-Slice.ensures.value)))
+
+pub evaluate-returns-in_err-count-in-Slice-clause-value : goal.evaluate-returns-in_err-count-in-Slice-clause-value
+evaluate-returns-in_err-count-in-Slice-clause-value g t c =
+    let db = c.args.db.now in
+    let names = names_of_protocol db c.args.protocol in
+    let r : c.from_residual-in_err-count-in-Slice.result ≡ Err c.in_err-count-in-Slice.field-0.0 = search rules in
+    recast db r (same_as db (slice_is db names c.args.e.now c.in-Slice.base c.in-Slice.from c.in-Slice.count c.get-in-Slice.result.now c.get-in-Slice-2.result.now c.get-in-Slice-3.result.now c.in-Slice.is c.get-in-Slice.ensures c.get-in-Slice-2.ensures c.get-in-Slice-3.ensures) (then_ok db _ c.in_ok-base-in-Slice.base c.in_ok-base-in-Slice.ensures.value (then_ok db _ c.in_ok-from-in-Slice.from c.in_ok-from-in-Slice.ensures.value (then_err db _ c.in_err-count-in-Slice.field-0.0 c.in_err-count-in-Slice.ensures.value))))
+
+pub evaluate-returns-in_ok-count-in-Slice-clause-value : goal.evaluate-returns-in_ok-count-in-Slice-clause-value
+evaluate-returns-in_ok-count-in-Slice-clause-value g t c =
+    let db = c.args.db.now in
+    let names = names_of_protocol db c.args.protocol in
+    same_as db (slice_is db names c.args.e.now c.in-Slice.base c.in-Slice.from c.in-Slice.count c.get-in-Slice.result.now c.get-in-Slice-2.result.now c.get-in-Slice-3.result.now c.in-Slice.is c.get-in-Slice.ensures c.get-in-Slice-2.ensures c.get-in-Slice-3.ensures) (finish_3 db (λ v w n. def.slice (buf v) (num w) (num n)) c.in_ok-base-in-Slice.base c.in_ok-from-in-Slice.from c.in_ok-count-in-Slice.count c.in_ok-base-in-Slice.ensures.value c.in_ok-from-in-Slice.ensures.value c.in_ok-count-in-Slice.ensures.value c.slice.ensures)
+
+pub evaluate-returns-in_ok-x-in-Not-clause-value : goal.evaluate-returns-in_ok-x-in-Not-clause-value
+evaluate-returns-in_ok-x-in-Not-clause-value g t c =
+    let db = c.args.db.now in
+    let names = names_of_protocol db c.args.protocol in
+    same_as db (not_is db names c.args.e.now c.in-Not.x c.get.result.now c.in-Not.is c.get.ensures) (finish_1 db (λ v. Ok (truth (not (is_so (num v))))) c.in_ok-x-in-Not.x c.in_ok-x-in-Not.ensures.value (own_is _ _ _ (c.of_truth-in-Not.ensures ∙ ap (λ (b : Bool). Own (truth (not b))) (c.is_so.ensures c.evaluate.new.env.packet.bytes))))
+
+pub evaluate-returns-in_ok-x-in-ToNumber-clause-value : goal.evaluate-returns-in_ok-x-in-ToNumber-clause-value
+evaluate-returns-in_ok-x-in-ToNumber-clause-value g t c =
+    let db = c.args.db.now in
+    let names = names_of_protocol db c.args.protocol in
+    same_as db (to_number_is db names c.args.e.now c.in-ToNumber.x c.get-in-ToNumber.result.now c.in-ToNumber.is c.get-in-ToNumber.ensures) (finish_1 db (λ v. def.to_number (buf v)) c.in_ok-x-in-ToNumber.x c.in_ok-x-in-ToNumber.ensures.value c.to_number.ensures)
+
+pub evaluate-returns-in_ok-x-in-LengthOf-clause-value : goal.evaluate-returns-in_ok-x-in-LengthOf-clause-value
+evaluate-returns-in_ok-x-in-LengthOf-clause-value g t c =
+    let db = c.args.db.now in
+    let names = names_of_protocol db c.args.protocol in
+    same_as db (length_is db names c.args.e.now c.in-LengthOf.x c.get-in-LengthOf.result.now c.in-LengthOf.is c.get-in-LengthOf.ensures) (finish_1 db (λ v. Ok (Num (length (buf v)))) c.in_ok-x-in-LengthOf.x c.in_ok-x-in-LengthOf.ensures.value (own_is _ _ _ c.length_of.ensures))
+
+pub evaluate-returns-in_ok-x-in-ToBytes-clause-value : goal.evaluate-returns-in_ok-x-in-ToBytes-clause-value
+evaluate-returns-in_ok-x-in-ToBytes-clause-value g t c =
+    let db = c.args.db.now in
+    let names = names_of_protocol db c.args.protocol in
+    same_as db (to_bytes_is db names c.args.e.now c.in-ToBytes.value c.get-in-ToBytes.result.now c.in-ToBytes.size c.in-ToBytes.is c.get-in-ToBytes.ensures) (finish_1 db (λ v. def.in_bytes c.in-ToBytes.size (num v)) c.in_ok-x-in-ToBytes.x c.in_ok-x-in-ToBytes.ensures.value (c.to_bytes.ensures _))
+
+pub evaluate-returns-in_ok-x-in-HasText-clause-value : goal.evaluate-returns-in_ok-x-in-HasText-clause-value
+evaluate-returns-in_ok-x-in-HasText-clause-value g t c =
+    let db = c.args.db.now in
+    let names = names_of_protocol db c.args.protocol in
+    same_as db (has_text_is db names c.args.e.now c.in-HasText.within c.get-in-HasText.result.now c.in-HasText.text c.in-HasText.is c.get-in-HasText.ensures) (finish_1 db (λ v. Ok (truth (occurs c.in-HasText.text (buf v)))) c.in_ok-x-in-HasText.x c.in_ok-x-in-HasText.ensures.value (own_is _ _ _ c.has_text.ensures))
+
+pub evaluate-returns-in-Number-clause-value : goal.evaluate-returns-in-Number-clause-value
+evaluate-returns-in-Number-clause-value g t c =
+    let db = c.args.db.now in
+    let names = names_of_protocol db c.args.protocol in
+    same db (number_is db names c.args.e.now c.in-Number.n c.args.env.now c.in-Number.is) (gives db (Ok (Num c.in-Number.n)) (own_is _ _ _ c.of_number.ensures))
+
+pub evaluate-returns-in-Text-clause-value : goal.evaluate-returns-in-Text-clause-value
+evaluate-returns-in-Text-clause-value g t c =
+    let db = c.args.db.now in
+    let names = names_of_protocol db c.args.protocol in
+    same db (text_is db names c.args.e.now c.in-Text.text c.args.env.now c.in-Text.is) (gives db (Ok (Buf c.in-Text.text)) (c.text.ensures _))
+
+pub evaluate-returns-in-Protocol-clause-value : goal.evaluate-returns-in-Protocol-clause-value
+evaluate-returns-in-Protocol-clause-value g t c =
+    let db = c.args.db.now in
+    let names = names_of_protocol db c.args.protocol in
+    let p = rw c.database-database.ensures.database at c.protocol.ensures in
+    same db (protocol_is db names c.args.e.now c.in-Protocol.name c.args.env.now c.in-Protocol.is) (gives db (Ok (Proto (protocol_at db c.in-Protocol.name))) (ap (λ (v : Value). Ok v) (sym p)))
+
+pub evaluate-returns-in-Field-clause-value : goal.evaluate-returns-in-Field-clause-value
+evaluate-returns-in-Field-clause-value g t c =
+    let db = c.args.db.now in
+    let names = names_of_protocol db c.args.protocol in
+    let h : Gave (shown c.args.env.now.packet.bytes) (field_value (last_of (names_of_protocol c.database-database.result.now c.args.protocol) c.as_slice.result.now c.args.env.now.present None)) c.field.result = c.field.ensures in
+    same db (field_is db names c.args.e.now c.in-Field.name c.args.env.now c.in-Field.is) (gives db _ (rw (c.database-database.ensures.database, c.as_slice.ensures.bytes) at h))
+
+pub evaluate-returns-in-Variable-clause-value : goal.evaluate-returns-in-Variable-clause-value
+evaluate-returns-in-Variable-clause-value g t c =
+    let db = c.args.db.now in
+    let names = names_of_protocol db c.args.protocol in
+    let h : Gave (shown c.args.env.now.packet.bytes) (Ok (variable_value c.database-database.result.now (special c.as_slice-in-Variable.result.now) c.as_slice-in-Variable.result.now c.args.env.now)) c.variable.result = c.variable.ensures in
+    same db (variable_is db names c.args.e.now c.in-Variable.name c.args.env.now c.in-Variable.is) (gives db _ (rw (c.database-database.ensures.database, c.as_slice-in-Variable.ensures.bytes) at h))
+
+pub evaluate-returns-in-Column-clause-value : goal.evaluate-returns-in-Column-clause-value
+evaluate-returns-in-Column-clause-value g t c =
+    let db = c.args.db.now in
+    let names = names_of_protocol db c.args.protocol in
+    let h : Gave (shown c.args.env.now.packet.bytes) (column_value (slice_get c.args.env.now.hits (table_at c.database-database.result.now c.as_slice-in-Column.result.now)) (column_at (slice_get c.database-database.result.now.tables (table_at c.database-database.result.now c.as_slice-in-Column.result.now)) c.as_slice-in-Column-2.result.now)) c.column.result = c.column.ensures in
+    same db (column_is db names c.args.e.now c.in-Column.table c.in-Column.column c.args.env.now c.in-Column.is) (gives db _ (rw (c.database-database.ensures.database, c.as_slice-in-Column.ensures.bytes, c.as_slice-in-Column-2.ensures.bytes) at h))
+
+pub evaluate-returns-in-IsPresent-clause-value : goal.evaluate-returns-in-IsPresent-clause-value
+evaluate-returns-in-IsPresent-clause-value g t c =
+    let db = c.args.db.now in
+    let names = names_of_protocol db c.args.protocol in
+    let h : c.is_present.result ≡ def.is_present (names_of_protocol c.database-database.result.now c.args.protocol) c.as_slice-in-IsPresent.result.now c.as_slice-present.result.now = c.is_present.ensures in
+    let k = rw (c.database-database.ensures.database, c.as_slice-in-IsPresent.ensures.bytes, c.as_slice-present.ensures) at h in
+    same db (is_present_is db names c.args.e.now c.in-IsPresent.name c.args.env.now c.in-IsPresent.is) (gives db _ (own_is _ _ _ (c.of_truth.ensures ∙ ap (λ (b : Bool). Own (truth b)) k)))
+
+pub evaluate-returns-in_err-keys-in-LookUp-clause-value : goal.evaluate-returns-in_err-keys-in-LookUp-clause-value
+evaluate-returns-in_err-keys-in-LookUp-clause-value g t c =
+    let db = c.args.db.now in
+    let names = names_of_protocol db c.args.protocol in
+    let place : c.table_at-place.result ≡ table_at db c.in-LookUp.table = rw (c.database-database.ensures.database, c.as_slice-in-LookUp.ensures.bytes) at c.table_at-place.ensures.place in
+    let sizes : map (λ (k : KeyDecl). k.size) c.key_sizes-sizes.result.now ≡ key_sizes (slice_get db.tables (table_at db c.in-LookUp.table)) = rw (c.database-database.ensures.database, place) at c.key_sizes-sizes.ensures in
+    let is = look_up_is db names c.args.e.now c.in-LookUp.table c.in-LookUp.renew c.in-LookUp.parts c.as_slice-in-LookUp-2.result.now (map (λ (k : KeyDecl). k.size) c.key_sizes-sizes.result.now) c.table_at-place.result c.in-LookUp.is c.as_slice-in-LookUp-2.ensures sizes place in
+    let r : c.from_residual-in_err-keys-in-LookUp.result ≡ Err c.in_err-keys-in-LookUp.field-0.0 = search rules in
+    recast db r (same_as db is (then_err db _ c.in_err-keys-in-LookUp.field-0.0 c.in_err-keys-in-LookUp.ensures.value))
+
+pub evaluate-returns-in_ok-keys-in-LookUp-clause-value : goal.evaluate-returns-in_ok-keys-in-LookUp-clause-value
+evaluate-returns-in_ok-keys-in-LookUp-clause-value g t c =
+    let db = c.args.db.now in
+    let names = names_of_protocol db c.args.protocol in
+    let place : c.table_at-place.result ≡ table_at db c.in-LookUp.table = rw (c.database-database.ensures.database, c.as_slice-in-LookUp.ensures.bytes) at c.table_at-place.ensures.place in
+    let sizes : map (λ (k : KeyDecl). k.size) c.key_sizes-sizes.result.now ≡ key_sizes (slice_get db.tables (table_at db c.in-LookUp.table)) = rw (c.database-database.ensures.database, place) at c.key_sizes-sizes.ensures in
+    let is = look_up_is db names c.args.e.now c.in-LookUp.table c.in-LookUp.renew c.in-LookUp.parts c.as_slice-in-LookUp-2.result.now (map (λ (k : KeyDecl). k.size) c.key_sizes-sizes.result.now) c.table_at-place.result c.in-LookUp.is c.as_slice-in-LookUp-2.ensures sizes place in
+    same_as db is (then_ok db _ c.in_ok-keys-in-LookUp.keys c.in_ok-keys-in-LookUp.ensures.value c.look.ensures.value)
+
+pub keys-loop-i-init : goal.keys-loop-i-init
+keys-loop-i-init g t c =
+    record {
+      database = refl;
+      packet = refl;
+      so_far = rw c.new-keys.ensures (no_keys_yet _ _ _ _);
+    }
+
+pub keys-returns-in_err-x-clause-value : goal.keys-returns-in_err-x-clause-value
+keys-returns-in_err-x-clause-value g t c =
+    let db = c.args.db.now in
+    let names = names_of_protocol db c.args.protocol in
+    let sizes = map (λ (k : KeyDecl). k.size) c.args.sizes.now in
+    let parts = map (val db names) c.args.parts.now in
+    let m = point c.args.env.now (g.A.Answers.content c.args.answers.now) (g.A.Answers.told c.args.answers.now) in
+    let n = point c.loop-i.env (g.A.Answers.content c.loop-i.answers) (g.A.Answers.told c.loop-i.answers) in
+    let i = c.loop-i.i in
+    let k = point c.evaluate.new.env (g.A.Answers.content c.evaluate.new.answers) (g.A.Answers.told c.evaluate.new.answers) in
+    let size = c.in-Some.declaration.now.size in
+    let p = val db names c.index-parts-i.result in
+    let found : slice_get c.args.sizes.now i ≡ Some c.in-Some.declaration.now = sym c.in-Some.ensures in
+    let s = keys_at db sizes parts m c.loop-i.keys i size p n (drop_some (λ (k : KeyDecl). k.size) c.args.sizes.now i c.in-Some.declaration.now found) (drop_at (val db names) c.args.parts.now i c.index-parts-i.result c.loop-i-test.true c.index-parts-i.is) c.loop-i.invariant.so_far in
+    let r : c.from_residual.result ≡ Err c.in_err-x.field-0.0 = search rules in
+    recast db r (key_unevaluated db sizes parts m c.loop-i.keys size (drop (i + 1) sizes) p (drop (i + 1) parts) n c.in_err-x.field-0.0 k s c.in_err-x.ensures.value)
+
+pub keys-returns-in_err-key-clause-value : goal.keys-returns-in_err-key-clause-value
+keys-returns-in_err-key-clause-value g t c =
+    let db = c.args.db.now in
+    let names = names_of_protocol db c.args.protocol in
+    let sizes = map (λ (k : KeyDecl). k.size) c.args.sizes.now in
+    let parts = map (val db names) c.args.parts.now in
+    let m = point c.args.env.now (g.A.Answers.content c.args.answers.now) (g.A.Answers.told c.args.answers.now) in
+    let n = point c.loop-i.env (g.A.Answers.content c.loop-i.answers) (g.A.Answers.told c.loop-i.answers) in
+    let i = c.loop-i.i in
+    let k = point c.evaluate.new.env (g.A.Answers.content c.evaluate.new.answers) (g.A.Answers.told c.evaluate.new.answers) in
+    let size = c.in-Some.declaration.now.size in
+    let p = val db names c.index-parts-i.result in
+    let found : slice_get c.args.sizes.now i ≡ Some c.in-Some.declaration.now = sym c.in-Some.ensures in
+    let s = keys_at db sizes parts m c.loop-i.keys i size p n (drop_some (λ (k : KeyDecl). k.size) c.args.sizes.now i c.in-Some.declaration.now found) (drop_at (val db names) c.args.parts.now i c.index-parts-i.result c.loop-i-test.true c.index-parts-i.is) c.loop-i.invariant.so_far in
+    let r : c.from_residual-in_err-key.result ≡ Err c.in_err-key.field-0.0 = search rules in
+    recast db r (key_unmade db sizes parts m c.loop-i.keys size (drop (i + 1) sizes) p (drop (i + 1) parts) n c.in_ok-x.x c.in_err-key.field-0.0 k s c.in_ok-x.ensures.value c.in_err-key.ensures)
+
+pub keys-returns-in_err-push-clause-value : goal.keys-returns-in_err-push-clause-value
+keys-returns-in_err-push-clause-value g t c =
+    let db = c.args.db.now in
+    let names = names_of_protocol db c.args.protocol in
+    let sizes = map (λ (k : KeyDecl). k.size) c.args.sizes.now in
+    let parts = map (val db names) c.args.parts.now in
+    let m = point c.args.env.now (g.A.Answers.content c.args.answers.now) (g.A.Answers.told c.args.answers.now) in
+    let n = point c.loop-i.env (g.A.Answers.content c.loop-i.answers) (g.A.Answers.told c.loop-i.answers) in
+    let i = c.loop-i.i in
+    let k = point c.evaluate.new.env (g.A.Answers.content c.evaluate.new.answers) (g.A.Answers.told c.evaluate.new.answers) in
+    let size = c.in-Some.declaration.now.size in
+    let p = val db names c.index-parts-i.result in
+    let found : slice_get c.args.sizes.now i ≡ Some c.in-Some.declaration.now = sym c.in-Some.ensures in
+    let s = keys_at db sizes parts m c.loop-i.keys i size p n (drop_some (λ (k : KeyDecl). k.size) c.args.sizes.now i c.in-Some.declaration.now found) (drop_at (val db names) c.args.parts.now i c.index-parts-i.result c.loop-i-test.true c.index-parts-i.is) c.loop-i.invariant.so_far in
+    let r : c.from_residual-in_err-push.result ≡ Err Refused = search rules in
+    recast db r ((key_made db sizes parts m c.loop-i.keys size (drop (i + 1) sizes) p (drop (i + 1) parts) n c.in_ok-x.x c.in_ok-key.field-0 k s c.in_ok-x.ensures.value c.in_ok-key.ensures).goes (Err Refused) k (refused db _))
+
+pub keys-loop-i-preserved : goal.keys-loop-i-preserved
+keys-loop-i-preserved g t c =
+    let db = c.args.db.now in
+    let names = names_of_protocol db c.args.protocol in
+    let sizes = map (λ (k : KeyDecl). k.size) c.args.sizes.now in
+    let parts = map (val db names) c.args.parts.now in
+    let m = point c.args.env.now (g.A.Answers.content c.args.answers.now) (g.A.Answers.told c.args.answers.now) in
+    let n = point c.loop-i.env (g.A.Answers.content c.loop-i.answers) (g.A.Answers.told c.loop-i.answers) in
+    let i = c.loop-i.i in
+    let k = point c.evaluate.new.env (g.A.Answers.content c.evaluate.new.answers) (g.A.Answers.told c.evaluate.new.answers) in
+    let size = c.in-Some.declaration.now.size in
+    let p = val db names c.index-parts-i.result in
+    let found : slice_get c.args.sizes.now i ≡ Some c.in-Some.declaration.now = sym c.in-Some.ensures in
+    let s = keys_at db sizes parts m c.loop-i.keys i size p n (drop_some (λ (k : KeyDecl). k.size) c.args.sizes.now i c.in-Some.declaration.now found) (drop_at (val db names) c.args.parts.now i c.index-parts-i.result c.loop-i-test.true c.index-parts-i.is) c.loop-i.invariant.so_far in
+    record {
+      database = search rules;
+      packet = search rules;
+      so_far = rw c.in_ok-push.ensures.pushed (key_made db sizes parts m c.loop-i.keys size (drop (i + 1) sizes) p (drop (i + 1) parts) n c.in_ok-x.x c.in_ok-key.field-0 k s c.in_ok-x.ensures.value c.in_ok-key.ensures);
+    }
+
+pub keys-returns-in-None : goal.keys-returns-in-None
+keys-returns-in-None g t c =
+    let db = c.args.db.now in
+    let names = names_of_protocol db c.args.protocol in
+    let sizes = map (λ (k : KeyDecl). k.size) c.args.sizes.now in
+    let parts = map (val db names) c.args.parts.now in
+    let m = point c.args.env.now (g.A.Answers.content c.args.answers.now) (g.A.Answers.told c.args.answers.now) in
+    let n = point c.loop-i.env (g.A.Answers.content c.loop-i.answers) (g.A.Answers.told c.loop-i.answers) in
+    let i = c.loop-i.i in
+    let past : slice_get c.args.sizes.now i ≡ None = sym c.in-None.ensures in
+    let s = c.loop-i.invariant.so_far in
+    let t = subst (λ (l : List ℕ). Keys_so_far db sizes parts m c.loop-i.keys l (drop i parts) n) (drop_past (λ (k : KeyDecl). k.size) c.args.sizes.now i past) s in
+    record {
+      database = c.loop-i.invariant.database;
+      packet = c.loop-i.invariant.packet;
+      room = keys_have_room db sizes parts m c.loop-i.keys (drop i sizes) (drop i parts) n s;
+      value = keys_end_sizes db sizes parts m c.loop-i.keys (drop i parts) n t;
+    }
+
+pub keys-returns : goal.keys-returns
+keys-returns g t c =
+    let db = c.args.db.now in
+    let names = names_of_protocol db c.args.protocol in
+    let sizes = map (λ (k : KeyDecl). k.size) c.args.sizes.now in
+    let parts = map (val db names) c.args.parts.now in
+    let m = point c.args.env.now (g.A.Answers.content c.args.answers.now) (g.A.Answers.told c.args.answers.now) in
+    let n = point c.loop-i.env (g.A.Answers.content c.loop-i.answers) (g.A.Answers.told c.loop-i.answers) in
+    let i = c.loop-i.i in
+    let end : i ≡ length c.args.parts.now = omega arith in
+    let s = c.loop-i.invariant.so_far in
+    let all : drop i parts ≡ [] = ap (λ (j : ℕ). drop j parts) end ∙ drop_all (val db names) c.args.parts.now in
+    let t = subst (λ (r : List (Eval Value)). Keys_so_far db sizes parts m c.loop-i.keys (drop i sizes) r n) all s in
+    record {
+      database = c.loop-i.invariant.database;
+      packet = c.loop-i.invariant.packet;
+      room = keys_have_room db sizes parts m c.loop-i.keys (drop i sizes) (drop i parts) n s;
+      value = keys_end_parts db sizes parts m c.loop-i.keys (drop i sizes) n t;
+    }

@@ -1,0 +1,4 @@
+pub mod Evaluates
+pub mod Names
+pub mod Operand
+pub mod Reads

@@ -1,0 +1,49 @@
+ghost use Rattle.std.specs.Prelude.{◌≡◌, ◌<◌, true, slice_get, slice_set, Some};
+ghost use Rattle.expr_eval.specs.Reads.{looked_up};
+ghost use Rattle.db_model.specs.Fitting.{look_has_room};
+ghost use Rattle.db_model.specs.Over.{point};
+ghost use Rattle.expr_eval.specs.Evaluates.{Evaluates};
+ghost use Rattle.expr_eval.specs.Operand.{shown};
+
+use crate::EvalEnd;
+use crate::operand::Operand;
+use db_model::{Answer, Answers, CheckedDb, Env, Keys, Question, Reason, Row, STAMP_END};
+
+/// Asks for the keys in the table of this number. Questions: none is left.
+pub fn look<A: Answers>(
+    db: &CheckedDb,
+    table: u8,
+    keys: Keys,
+    renew: bool,
+    env: &mut Env,
+    answers: &mut A,
+) -> Result<Operand, EvalEnd>
+    requires database { A.database answers.old ≡ db.now }
+    requires time { env.old.packet.stamp < STAMP_END }
+    requires room { look_has_room (slice_get db.now.tables table) keys ≡ true }
+    ensures database { A.database answers.new ≡ A.database answers.old }
+    ensures packet { env.new.packet ≡ env.old.packet }
+    ensures value { Evaluates db.now (looked_up table keys renew) shown (point env.old (A.content answers.old) (A.told answers.old)) result (point env.new (A.content answers.new) (A.told answers.new)) }
+{
+    if env.questions == 0 {
+        return Err(EvalEnd::Fault(Reason::Questions));
+    }
+    env.questions -= 1;
+    let question = Question::Look { table, keys, renew };
+    match answers.ask(&question, env.packet.stamp)? {
+        Answer::Hit(row) => {
+            note_hit(env, table as usize, row);
+            Ok(Operand::of_number(1))
+        }
+        Answer::Miss | Answer::Done => Ok(Operand::of_number(0)),
+    }
+}
+
+/// Notes the row last hit of a table.
+fn note_hit(env: &mut Env, table: usize, row: Row)
+    ensures { env.new ≡ record env.old { hits = slice_set env.old.hits table (Some row) } }
+{
+    if table < env.hits.len() {
+        env.hits.set(table, Some(row));
+    }
+}

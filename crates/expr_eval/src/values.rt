@@ -1,0 +1,198 @@
+ghost use Rattle.std.specs.Prelude.{◌≡◌, ◌+◌, ◌*◌, ◌^◌, ◌<◌, ◌≤◌, nat_lt, List, ℕ, Ok, Err, MatchOption, MatchResult, IfOk, vec_len, length, take, drop};
+ghost use Rattle.db_model.specs.declared.value.Value.TheVariants.{Num};
+ghost use Rattle.db_model.specs.Expression.{num, buf, truth};
+ghost use Rattle.db_model.specs.Expression;
+ghost use Rattle.db_model.specs.Numbers;
+ghost use Rattle.db_model.specs.Numbers.{occurs};
+ghost use Rattle.db_model.specs.Replay.{same_value};
+ghost use Rattle.expr_eval.specs.declared.end.EvalEnd.TheVariants.{NoMemory as Refused};
+ghost use Rattle.expr_eval.specs.Evaluates.{Gave};
+ghost use Rattle.expr_eval.specs.Operand.{shown, seen};
+
+use crate::EvalEnd;
+use crate::operand::{Operand, View, piece};
+use db_model::{Bytes, MOST_BYTES, MOST_NUMBER_BYTES, Operator, Reason, Value};
+use memchr::memmem;
+use std::alloc::Global;
+
+/// 0 where it is no number.
+fn number(x: View<'_>) -> u32
+    ensures { result ≡ num (seen x.entry) }
+{
+    match x {
+        View::Number(n) => n,
+        View::Bytes(_) | View::Protocol(_) => 0,
+    }
+}
+
+/// No bytes where it has none.
+pub fn bytes<'a>(x: View<'a>) -> &'a [u8]
+    ensures { result.now ≡ buf (seen x.entry) }
+{
+    match x {
+        View::Bytes(bytes) => bytes,
+        View::Number(_) | View::Protocol(_) => &[],
+    }
+}
+
+/// 1 where it is so.
+pub fn of_truth(so: bool) -> Value
+    ensures { result ≡ truth so }
+{
+    Value::Num(so as u32)
+}
+
+fn or_reason(n: Option<u32>, reason: Reason) -> Result<Value, Reason>
+    ensures { MatchOption n (result ≡ Err reason) (λ n. result ≡ Ok (Num n)) }
+{
+    match n {
+        Some(n) => Ok(Value::Num(n)),
+        None => Err(reason),
+    }
+}
+
+fn is_same(x: View<'_>, y: View<'_>) -> bool
+    ensures { result ≡ same_value (seen x.entry) (seen y.entry) }
+{
+    match (x, y) {
+        (View::Number(a), View::Number(b)) => a == b,
+        (View::Bytes(a), View::Bytes(b)) => a == b,
+        (View::Protocol(a), View::Protocol(b)) => a == b,
+        _ => false,
+    }
+}
+
+/// Range: a sum, a difference or a product is below 0 or above the greatest number. Zero: a division by 0.
+pub fn binary(op: Operator, x: View<'_>, y: View<'_>) -> Result<Value, Reason>
+    ensures { result ≡ Expression.binary op (seen x.entry) (seen y.entry) }
+{
+    let a = number(x);
+    let b = number(y);
+    match op {
+        Operator::Add => or_reason(a.checked_add(b), Reason::Range),
+        Operator::Sub => or_reason(a.checked_sub(b), Reason::Range),
+        Operator::Mul => or_reason(a.checked_mul(b), Reason::Range),
+        Operator::Div => or_reason(a.checked_div(b), Reason::Zero),
+        Operator::Mod => or_reason(a.checked_rem(b), Reason::Zero),
+        Operator::BitAnd => Ok(Value::Num(a & b)),
+        Operator::BitOr => Ok(Value::Num(a | b)),
+        Operator::Lt => Ok(of_truth(a < b)),
+        Operator::Le => Ok(of_truth(a <= b)),
+        Operator::Gt => Ok(of_truth(a > b)),
+        Operator::Ge => Ok(of_truth(a >= b)),
+        Operator::Eq => Ok(of_truth(is_same(x, y))),
+        Operator::Ne => Ok(of_truth(!is_same(x, y))),
+    }
+}
+
+fn joined(high: u32, low: u8) -> u32
+    requires { high < 2 ^ 24 }
+    ensures { result ≡ 256 * high + low }
+{
+    256 * high + low as u32
+}
+
+/// Size: there is no byte, or there are more than a number has.
+pub fn to_number(bytes: &[u8]) -> Result<Value, Reason>
+    ensures { result ≡ Expression.to_number bytes.now }
+{
+    match *bytes {
+        [a] => Ok(Value::Num(a as u32)),
+        [a, b] => Ok(Value::Num(joined(a as u32, b))),
+        [a, b, c] => Ok(Value::Num(joined(joined(a as u32, b), c))),
+        [a, b, c, d] => Ok(Value::Num(joined(joined(joined(a as u32, b), c), d))),
+        _ => Err(Reason::Size),
+    }
+}
+
+/// Whether a number has no more than so many bytes.
+fn is_within(n: u32, size: u32) -> bool
+    ensures { result ≡ nat_lt n (256 ^ size) }
+{
+    match 256u32.checked_pow(size) {
+        Some(end) => n < end,
+        None => true,
+    }
+}
+
+/// Whether the text stands somewhere within the bytes.
+pub fn has_text(within: &[u8], text: &[u8]) -> bool
+    ensures { result ≡ occurs text.now within.now }
+{
+    memmem::find(within, text).is_some()
+}
+
+/// The last so many bytes of a number. Range: the number has more.
+pub fn to_bytes(alloc: Global, n: u32, size: u32) -> Result<Operand, EvalEnd>
+    ensures { (packet : List ℕ) → Gave (shown packet) (Expression.in_bytes size n) result }
+{
+    if !is_within(n, size) {
+        return Err(EvalEnd::Fault(Reason::Range));
+    }
+    // No grammar gives such a size, and no memory is taken for it.
+    if size as usize > MOST_BYTES {
+        return Err(EvalEnd::NoMemory);
+    }
+    let bytes = last_bytes(alloc, n, size)?;
+    Ok(Operand::Own(Value::Buf(Bytes::from_vec(bytes))))
+}
+
+fn last_bytes(alloc: Global, n: u32, size: u32) -> Result<Vec<u8>, EvalEnd>
+    ensures bytes { MatchResult result (λ bytes. bytes.items ≡ Numbers.to_bytes size n) (λ e. e ≡ Refused) }
+    ensures len { IfOk result (λ bytes. vec_len bytes ≡ size) }
+{
+    let mut bytes = Vec::new(alloc);
+    let mut left = n;
+    for _place in 0..size {
+        bytes.push((left % 256) as u8)?;
+        left /= 256;
+    }
+    bytes.reverse();
+    Ok(bytes)
+}
+
+/// The bytes of a value, none where it has none.
+fn bytes_of(value: &Value) -> &[u8]
+    ensures bytes { result.now ≡ buf value.now }
+    ensures bound { length result.now ≤ MOST_BYTES }
+{
+    match value {
+        Value::Buf(bytes) => bytes.as_slice(),
+        Value::Num(_) | Value::Proto(_) => &[],
+    }
+}
+
+/// `count` bytes from the place `from` on, where there are so many.
+fn cut(bytes: &[u8], from: u32, count: u32) -> Option<&[u8]>
+    ensures { MatchOption result (length bytes.now < from + count) (λ piece. (from + count ≤ length bytes.now) × (piece.now ≡ take count (drop from bytes.now))) }
+{
+    bytes.get(from as usize..)?.get(..count as usize)
+}
+
+/// `count` bytes from the place `from` on. Slice: there are not so many.
+pub fn slice(
+    alloc: Global,
+    base: &Operand,
+    packet: &Bytes,
+    from: u32,
+    count: u32,
+) -> Result<Operand, EvalEnd>
+    ensures { Gave (shown packet.now) (Expression.slice (buf (shown packet.now base.now)) from count) result }
+{
+    match base {
+        Operand::Piece {
+            from: start,
+            count: all,
+        } => match cut(piece(packet.as_slice(), *start, *all), from, count) {
+            Some(_) => Ok(Operand::Piece {
+                from: *start + from,
+                count,
+            }),
+            None => Err(EvalEnd::Fault(Reason::Slice)),
+        },
+        Operand::Own(value) => match cut(bytes_of(value), from, count) {
+            Some(bytes) => Ok(Operand::Own(Value::Buf(Bytes::copy_of(alloc, bytes)?))),
+            None => Err(EvalEnd::Fault(Reason::Slice)),
+        },
+    }
+}
