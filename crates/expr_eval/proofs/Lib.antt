@@ -1,5 +1,4 @@
 pub mod Bytes
 pub mod Steps
 pub mod Forms
-pub mod Walking
 pub mod NoTables

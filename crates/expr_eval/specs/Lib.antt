@@ -1,4 +1,3 @@
 pub mod Evaluates
-pub mod Names
 pub mod Operand
 pub mod Reads

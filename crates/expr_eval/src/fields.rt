@@ -1,11 +1,11 @@
 ghost use Rattle.std.specs.Prelude.{◌≡◌, None};
 ghost use Rattle.std.specs.Option.{option_copied};
-ghost use Rattle.db_model.specs.Expression.{last_of};
+ghost use Rattle.db_model.specs.Expression.{last_of, named};
 ghost use Rattle.db_model.specs.Expression;
 ghost use Rattle.db_model.specs.Numbering.{names_of_protocol};
 
-use crate::names::is_named;
 use db_model::{Bytes, Database};
+use numbering::field_name;
 
 /// The value of the last of the decoded fields that has this name.
 pub fn last_value<'a>(
@@ -35,4 +35,17 @@ pub fn is_present(db: &Database, protocol: u16, name: &[u8], present: &[(u32, By
         }
     }
     false
+}
+
+/// Whether the field of this number is one of the protocol's and has this name.
+fn is_named(db: &Database, protocol: u16, name: &[u8], field: u32) -> bool
+    ensures { result ≡ named (names_of_protocol db.now protocol) name.now field }
+{
+    match db.protocols.get(protocol as usize) {
+        Some(protocol) => match field_name(protocol, field) {
+            Some(other) => name == other.as_slice(),
+            None => false,
+        },
+        None => false,
+    }
 }

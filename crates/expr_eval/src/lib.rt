@@ -6,7 +6,6 @@
 mod end;
 mod evaluation;
 mod fields;
-mod names;
 mod operand;
 mod operators;
 mod reads;
