@@ -1,3 +1,4 @@
 pub mod Worked
 pub mod Judged
 pub mod Rules
+pub mod KeyedJudged

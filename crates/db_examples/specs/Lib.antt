@@ -1,4 +1,5 @@
 pub mod Examples
+pub mod KeyedSample
 pub mod RuleExamples
 pub mod RuleSamples
 pub mod Samples

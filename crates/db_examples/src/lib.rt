@@ -3,8 +3,12 @@
 //! says something else is refused here.
 #![tactic(auto)]
 
+mod values;
+
 ghost use Rattle.db_examples.specs.Examples.{SessionIsHit, EmptyPacket, ShortPacket, TurnsEnd, RightSideAlone, DeadlineIsEnd, FullTable, TimeRunsBackwards, MaskedAddsOnHit, FirstFrame, ExpressionsGive, DatabasesAreJudged, SizesAreTyped};
 ghost use Rattle.db_examples.specs.RuleExamples.{RenewalKeepsPlace, LeastDeadlineGoes, RoomKeepsAll, ExactFirst, KeyBeforeQuestion, BlockBeforeBody, BreakRestoresLimit, NoteIsInnermost, EndBeforeProtocols};
+
+pub use values::keyed_database;
 
 /// A request adds the session by which its answer is shown as text; an answer without one shows payload.
 pub fn session_is_hit()
