@@ -1,6 +1,7 @@
 ghost use Rattle.std.specs.Prelude.{◌≡◌, ◌≤◌, length, [], Some, IfOk};
 
 use crate::{EvalEnd, eval};
+use db_examples::keyed_database;
 use db_model::{
     Answer, Answers, Bytes, CheckedDb, Env, Expr, MOST_BYTES, Name, NoMemory, Operator, Packet,
     Question, Reason, Sequence, Stamp, Value,
@@ -41,18 +42,22 @@ fn pair(question: &Question, answer: &Answer) -> Result<(Question, Answer), NoMe
 
 /// What an expression gives over the smallest database, with so many questions left, and how many were asked.
 fn outcome(alloc: Global, e: &Expr, questions: u32) -> (Result<Value, EvalEnd>, usize) {
-    match evaluated(alloc, e, questions) {
+    let Ok(db) = CheckedDb::bare(alloc) else {
+        return (Err(EvalEnd::NoMemory), 0);
+    };
+    match evaluated(alloc, &db, e, questions) {
         Ok((value, asked)) => (value, asked),
         Err(NoMemory) => (Err(EvalEnd::NoMemory), 0),
     }
 }
 
+/// The same over a database.
 fn evaluated(
     alloc: Global,
+    db: &CheckedDb,
     e: &Expr,
     questions: u32,
 ) -> Result<(Result<Value, EvalEnd>, usize), NoMemory> {
-    let db = CheckedDb::bare(alloc)?;
     let packet = Packet {
         number: 0,
         link: 1,
@@ -60,13 +65,13 @@ fn evaluated(
         length: 60,
         bytes: Bytes::copy_of(alloc, b"abcde")?,
     };
-    let mut env = Env::start(alloc, &db, &packet)?;
+    let mut env = Env::start(alloc, db, &packet)?;
     env.questions = questions;
     let mut answers = NoTables {
-        db: &db,
+        db,
         pairs: Sequence::new(alloc),
     };
-    let value = eval(alloc, e, &db, 0, &mut env, &mut answers);
+    let value = eval(alloc, e, db, 0, &mut env, &mut answers);
     let asked = answers.pairs.len();
     Ok((value, asked))
 }
@@ -137,27 +142,40 @@ fn expressions_without_a_value_have_their_reason(rt: HostRuntime) -> Result<(), 
         size: 1,
     };
     assert!(rt; has_reason(alloc, &long, Reason::Range));
-    let field = Expr::Field(Name::copy_of(alloc, b"src")?);
-    assert!(rt; has_reason(alloc, &field, Reason::NoField));
+    Ok(())
+}
+
+/// `checklookuptable(t, KEY)`
+fn look_up(alloc: Global, key: &[u8]) -> Result<Expr, NoMemory>
+    requires { length key.now ≤ MOST_BYTES }
+{
+    let mut keys = Items::new(alloc);
+    keys.push(text(alloc, key)?)?;
+    Ok(Expr::LookUp {
+        table: Name::copy_of(alloc, b"t")?,
+        renew: false,
+        keys,
+    })
+}
+
+#[test]
+fn declared_names_and_look_ups(rt: HostRuntime) -> Result<(), Fail> {
+    let alloc = rt.alloc();
+    let db = keyed_database(alloc)?;
+    let field = Expr::Field(Name::copy_of(alloc, b"f")?);
+    let (none_yet, _) = evaluated(alloc, &db, &field, 1)?;
+    assert!(rt; none_yet == Err(EvalEnd::Fault(Reason::NoField)));
     let column = Expr::Column {
         table: Name::copy_of(alloc, b"t")?,
         column: Name::copy_of(alloc, b"d")?,
     };
-    assert!(rt; has_reason(alloc, &column, Reason::NoHit));
-    Ok(())
-}
-
-#[test]
-fn look_ups_ask_while_questions_are_left(rt: HostRuntime) -> Result<(), Fail> {
-    let alloc = rt.alloc();
-    let look = Expr::LookUp {
-        table: Name::copy_of(alloc, b"t")?,
-        renew: false,
-        keys: Items::new(alloc),
-    };
-    let (missed, asked) = outcome(alloc, &look, 1);
+    let (no_row, _) = evaluated(alloc, &db, &column, 1)?;
+    assert!(rt; no_row == Err(EvalEnd::Fault(Reason::NoHit)));
+    let (too_long, asked) = evaluated(alloc, &db, &look_up(alloc, b"ab")?, 1)?;
+    assert!(rt; too_long == Err(EvalEnd::Fault(Reason::KeySize)) && asked == 0);
+    let (missed, asked) = evaluated(alloc, &db, &look_up(alloc, b"a")?, 1)?;
     assert!(rt; missed == Ok(Value::Num(0)) && asked == 1);
-    let (spent, asked) = outcome(alloc, &look, 0);
+    let (spent, asked) = evaluated(alloc, &db, &look_up(alloc, b"a")?, 0)?;
     assert!(rt; spent == Err(EvalEnd::Fault(Reason::Questions)) && asked == 0);
     Ok(())
 }
