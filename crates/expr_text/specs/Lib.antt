@@ -1,0 +1,5 @@
+pub mod Grammar
+pub mod Lexing
+pub mod Machine
+pub mod Refusal
+pub mod Tokens
