@@ -206,8 +206,4 @@ abbrev pub AreTokens : List Placed → List Token → Type 0
 AreTokens [] [] = Unit {0}
 AreTokens [] (t ∷ ts) = ⊥
 AreTokens (p ∷ ps) [] = ⊥
-AreTokens (p ∷ ps) (t ∷ ts) = IsToken p.lexeme t × AreTokens ps ts
-  where
-    IsToken : Lexeme → Token → Type 0
-    IsToken (lexeme.Token u) t = u ≡ t
-    IsToken _ t = ⊥
+AreTokens (p ∷ ps) (t ∷ ts) = (p.lexeme ≡ lexeme.Token t) × AreTokens ps ts
