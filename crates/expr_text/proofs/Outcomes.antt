@@ -203,7 +203,8 @@ one_refusal bytes at code at' code' (faulty w f) (too_long l a c) = absurd (omeg
 one_refusal bytes at code at' code' (faulty w f) (faulty w' f') =
     let p = faulty_is bytes at code f in
     let q = faulty_is bytes at' code' f' in
-    (cc, cc)
+    let same : ◌≡◌ {A = ℕ × ℕ} (at, code) (at', code') = cc in
+    (ap (λ x. x.0) same, ap (λ x. x.1) same)
 one_refusal bytes at code at' code' (faulty w f) (too_large w' f' a c) = absurd (spelled_not_faulty bytes f'.expression at code f'.spelled f)
 one_refusal bytes at code at' code' (too_large w f a c) (too_long l a' c') = absurd (omega arith)
 one_refusal bytes at code at' code' (too_large w f a c) (faulty w' f') = absurd (spelled_not_faulty bytes f.expression at' code' f.spelled f')

@@ -29,22 +29,30 @@ pub record Joined : Type 0 where
 abbrev pub at : Mode → Stack → Option State
 at m k = Some (record { mode = m; stack = k })
 
+-- the state after a step that gave a mode, or none
+abbrev pub now : Option Mode → Stack → Option State
+now None k = None
+now (Some m) k = at m k
+
 abbrev pub joined : Expr → Stack → Joined
 joined e k = record { value = e; stack = k }
 
 abbrev pub start : State
 start = record { mode = mode.Wants; stack = [] }
 
--- the least level that an expression may have here
+-- the least level that an expression may have behind a frame
+abbrev pub wanted_by : Frame → ℕ
+wanted_by (frame.Operand o a) = suc (level_of o)
+wanted_by frame.Negated = 3
+wanted_by frame.Parenthesis = 1
+wanted_by (frame.Start b) = 1
+wanted_by (frame.Length b from) = 1
+wanted_by (frame.Argument f) = 1
+wanted_by (frame.Key table renew keys) = 1
+
 abbrev pub wanted : Stack → ℕ
 wanted [] = 1
-wanted (frame.Operand o a ∷ k) = suc (level_of o)
-wanted (frame.Negated ∷ k) = 3
-wanted (frame.Parenthesis ∷ k) = 1
-wanted (frame.Start b ∷ k) = 1
-wanted (frame.Length b from ∷ k) = 1
-wanted (frame.Argument f ∷ k) = 1
-wanted (frame.Key table renew keys ∷ k) = 1
+wanted (f ∷ k) = wanted_by f
 
 -- what an operator or a `not` makes of the expression behind it
 abbrev pub built : Frame → Expr → Expr
@@ -65,6 +73,14 @@ binds l (frame.Start b) = false
 binds l (frame.Length b from) = false
 binds l (frame.Argument f) = false
 binds l (frame.Key table renew keys) = false
+
+abbrev pub is_empty : Stack → Bool
+is_empty [] = true
+is_empty (f ∷ k) = false
+
+abbrev pub ends : ℕ → Stack → Bool
+ends l [] = false
+ends l (f ∷ k) = binds l f
 
 -- the expression with all operators that end before this level
 abbrev pub join : ℕ → Expr → Stack → Joined

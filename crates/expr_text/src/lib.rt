@@ -2,9 +2,13 @@
 //! place and the code of the text's first fault.
 #![tactic(auto)]
 
+mod fixed;
+mod frames;
+mod joining;
 mod lexeme;
 mod limits;
 mod machine;
+mod step;
 mod token;
 
 pub use lexeme::{Lexeme, Scanned};
