@@ -6,13 +6,12 @@ use Rattle.db_model.specs.declared.expression.Expr.TheVariants as expr
 use Rattle.expr_text.specs.declared.machine.Frame.TheVariants as frame
 use Rattle.expr_text.specs.declared.machine.Mode.{Mode}
 use Rattle.expr_text.specs.declared.machine.Mode.TheVariants as mode
-use Rattle.expr_text.specs.declared.token.BinaryOp.{BinaryOp}
 use Rattle.expr_text.specs.declared.token.Call.TheVariants as call
 use Rattle.expr_text.specs.declared.token.Token.{Token}
 use Rattle.expr_text.specs.declared.token.Token.TheVariants as token
 use Rattle.expr_text.specs.Tokens.{level_of, left_level_of, joined_by}
 use Rattle.expr_text.specs.Grammar.{Reads, ReadsKeys, number, text, protocol, variable, column, field, group, to_number, length_of, to_bytes, has_text, is_present, look_up, slice, binary, negated, tighter, last, key, Spells}
-use Rattle.expr_text.specs.Machine.{Stack, State, Joined, at, joined, start, wanted, built, binds, join, when, begin, operator, go_on, close, colon, close_bracket, comma, ended_by, open_call, open_present, present_name, open_look_up, table_name, key_or_end, size, searched, closes, step_in, step, step_from, alone, end_in, fed, ended}
+use Rattle.expr_text.specs.Machine.{Stack, State, Joined, at, joined, start, wanted, join, when, begin, go_on, close, colon, close_bracket, comma, open_call, open_present, present_name, open_look_up, table_name, key_or_end, size, searched, closes, step_in, step, alone, end_in, fed, ended}
 use Rattle.expr_text.proofs.Levels.{sides}
 
 -- ---- an expression of a level is one of each looser level

@@ -1,5 +1,5 @@
 -- Each state of the machine can be ended, so the tokens that it has taken go on to an expression.
-use Rattle.std.proofs.Common.{◌≡◌, ◌≤◌, ℕ, Bool, List, [], ◌∷◌, ◌++◌, Option, Some, None, refl, sym, ap, ◌∙◌, arith}
+use Rattle.std.proofs.Common.{◌≡◌, ℕ, List, [], ◌∷◌, ◌++◌, Option, Some, None, refl, ap, ◌∙◌, arith}
 use Rattle.db_model.specs.declared.expression.Expr.{Expr}
 use Rattle.db_model.specs.declared.expression.Expr.TheVariants as expr
 use Rattle.expr_text.specs.declared.machine.Frame.TheVariants as frame
@@ -12,7 +12,7 @@ use Rattle.expr_text.specs.declared.token.Token.TheVariants as token
 use Rattle.expr_text.specs.Tokens.{joined_by}
 use Rattle.expr_text.specs.Grammar.{Spells}
 use Rattle.expr_text.specs.Refusal.{Viable}
-use Rattle.expr_text.specs.Machine.{Stack, State, Joined, at, joined, start, join, close, comma, colon, close_bracket, step_from, alone, fed, ended}
+use Rattle.expr_text.specs.Machine.{Stack, State, at, start, join, close, comma, colon, close_bracket, step_from, alone, fed, ended}
 use Rattle.expr_text.proofs.Levels.{sides, join_operand, join_negated}
 use Rattle.expr_text.proofs.Followed.{followed}
 use Rattle.expr_text.proofs.Accepted.{accepted}

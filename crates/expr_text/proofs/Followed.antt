@@ -1,5 +1,5 @@
 -- What the grammar reads, the machine follows: of an expression's tokens it makes something that joins to the expression.
-use Rattle.std.proofs.Common.{◌≡◌, ◌≤◌, ℕ, suc, Bool, true, nat_le, List, [], ◌∷◌, ◌++◌, Option, Some, None, refl, sym, ap, ◌∙◌, arith, append_assoc, append-nil}
+use Rattle.std.proofs.Common.{◌≡◌, ◌≤◌, ℕ, Bool, List, [], ◌∷◌, ◌++◌, Some, refl, sym, ap, ◌∙◌, arith, append_assoc, append-nil}
 use Rattle.db_model.specs.declared.expression.Expr.{Expr}
 use Rattle.db_model.specs.declared.expression.Expr.TheVariants as expr
 use Rattle.expr_text.specs.declared.machine.Frame.TheVariants as frame
@@ -7,9 +7,9 @@ use Rattle.expr_text.specs.declared.machine.Mode.TheVariants as mode
 use Rattle.expr_text.specs.declared.token.Call.TheVariants as call
 use Rattle.expr_text.specs.declared.token.Token.{Token}
 use Rattle.expr_text.specs.declared.token.Token.TheVariants as token
-use Rattle.expr_text.specs.Tokens.{level_of, left_level_of, joined_by}
+use Rattle.expr_text.specs.Tokens.{level_of, left_level_of}
 use Rattle.expr_text.specs.Grammar.{Reads, ReadsKeys, number, text, protocol, variable, column, field, group, to_number, length_of, to_bytes, has_text, is_present, look_up, slice, binary, negated, tighter, last, key, Spells}
-use Rattle.expr_text.specs.Machine.{Stack, State, Joined, at, joined, start, wanted, join, when, operator, close, colon, close_bracket, comma, alone, fed, ended}
+use Rattle.expr_text.specs.Machine.{Stack, at, joined, start, wanted, join, when, operator, close, colon, close_bracket, comma, alone, fed, ended}
 use Rattle.expr_text.proofs.Levels.{sides, le_true, join_stays, join_slice, join_operand, join_negated}
 
 -- after the tokens from ts to rest, in front of an open stack k, the machine has something that joins to (e, k) up to level l

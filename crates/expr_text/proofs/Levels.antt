@@ -1,5 +1,5 @@
 -- Levels of operators, and what joins at a level.
-use Rattle.std.proofs.Common.{◌≡◌, ◌≢◌, ◌≤◌, ◌<◌, ℕ, suc, Bool, true, false, nat_le, if◌then◌else◌, ◌==◌, List, [], ◌∷◌, refl, ap, ◌∙◌, arith}
+use Rattle.std.proofs.Common.{◌≡◌, ◌≢◌, ◌≤◌, ◌<◌, ℕ, suc, true, false, nat_le, if◌then◌else◌, ◌==◌, [], ◌∷◌, refl, ap, arith}
 use Rattle.std.proofs.lemmas.Bool.Decides.{nat_tests}
 use Rattle.db_model.specs.declared.expression.Expr.{Expr}
 use Rattle.db_model.specs.declared.expression.Expr.TheVariants as expr
@@ -9,7 +9,7 @@ use Rattle.expr_text.specs.declared.machine.Frame.TheVariants as frame
 use Rattle.expr_text.specs.declared.token.BinaryOp.{BinaryOp}
 use Rattle.expr_text.specs.declared.token.BinaryOp.TheVariants as binary_op
 use Rattle.expr_text.specs.Tokens.{plain_level, level_of, left_level_of, joined_by}
-use Rattle.expr_text.specs.Machine.{Stack, Joined, joined, wanted, built, binds, join}
+use Rattle.expr_text.specs.Machine.{Stack, joined, wanted, join}
 
 plain_bounds : (o : Operator) → (4 ≤ plain_level o) × (plain_level o ≤ 6)
 plain_bounds op.Add = (omega arith, omega arith)

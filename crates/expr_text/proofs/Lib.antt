@@ -1,5 +1,8 @@
 pub mod Accepted
+pub mod Answered
+pub mod Counting
 pub mod Finishes
 pub mod Followed
 pub mod Levels
 pub mod Outcomes
+pub mod Skipping

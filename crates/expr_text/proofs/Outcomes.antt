@@ -1,15 +1,14 @@
 -- The machine's outcome is the answer that the grammar gives, and each answer is that of the outcome.
-use Rattle.std.proofs.Common.{◌≡◌, ◌≤◌, ◌<◌, ℕ, List, [], ◌∷◌, ◌++◌, length, Option, Some, None, Result, Ok, Err, ◌⊎◌, inl, inr, refl, sym, ap, subst, ◌∙◌, append_assoc, append-nil, arith}
+use Rattle.std.proofs.Common.{◌≡◌, ℕ, List, [], ◌∷◌, ◌++◌, length, Option, Some, None, Ok, Err, inl, inr, refl, sym, ap, subst, ◌∙◌, append_assoc, append-nil, arith}
 use Rattle.db_model.specs.declared.expression.Expr.{Expr}
 use Rattle.expr_text.specs.declared.lexeme.Lexeme.{Lexeme}
 use Rattle.expr_text.specs.declared.lexeme.Lexeme.TheVariants as lexeme
 use Rattle.expr_text.specs.declared.token.Token.{Token}
 use Rattle.expr_text.specs.declared.token.Token.TheVariants as token
-use Rattle.expr_text.specs.Grammar.{Spells}
 use Rattle.expr_text.specs.Lexing.{Placed, lexemes, AreTokens}
-use Rattle.expr_text.specs.Machine.{State, start, step, step_from, fed, ended}
+use Rattle.expr_text.specs.Machine.{State, start, step, fed, ended}
 use Rattle.expr_text.specs.Outcome.{Answer, or_fault, after, at_end, outcome}
-use Rattle.expr_text.specs.Refusal.{Viable, IsSpelled, IsSmall, IsText, IsFaulty, IsFaultyAt, IsFaultyFrom, IsTooLarge, IsRefused, too_long, faulty, too_large}
+use Rattle.expr_text.specs.Refusal.{Viable, IsSpelled, IsSmall, IsText, IsFaulty, IsFaultyAt, IsFaultyFrom, IsRefused, too_long, faulty, too_large}
 use Rattle.expr_text.proofs.Accepted.{accepted}
 use Rattle.expr_text.proofs.Followed.{followed}
 use Rattle.expr_text.proofs.Finishes.{fed-append, fed_none, alive, refused}
@@ -56,11 +55,14 @@ module _ (bytes : List ℕ) where
     spells = accepted e front (ap ended k.taken ∙ h);
   }
   tells_end before front s k None h =
-      faulty_here before [] front s (length bytes) 2 k
-      (λ e d.
-          let p : ended (fed (Some start) front) ≡ Some e = followed d in
-          let q : ended (fed (Some start) front) ≡ None = ap ended k.taken ∙ h in
-          cc, refl, refl)
+      faulty_here before [] front s (length bytes) 2 k (
+        λ e d.
+            let p : ended (fed (Some start) front) ≡ Some e = followed d in
+            let q : ended (fed (Some start) front) ≡ None = ap ended k.taken ∙ h in
+            cc,
+        refl,
+        refl,
+      )
 
   tells_token : (before ps : List Placed) (front : List Token) (s : State) (p : Placed) (t : Token) → Taken before (p ∷ ps) front s → p.lexeme ≡ lexeme.Token t
       → (next : State → Answer) → ((s' : State) → step s t ≡ Some s' → Tells bytes (next s')) → (r : Option State) → step s t ≡ r → Tells bytes (or_fault p.at 1 next r)
@@ -93,10 +95,10 @@ module _ (bytes : List ℕ) where
   tells (p ∷ ps) before front s k =
       tells_lexeme before ps front s p k (λ s'. outcome (length bytes) s' ps)
       (λ t s' e h. tells ps (before ++ p ∷ []) (front ++ t ∷ []) s' (record {
-          parts = k.parts ∙ sym (append_assoc before (p ∷ []) ps);
-          are = AreTokens-push before front p t k.are e;
-          taken = fed-push front s t k.taken ∙ h;
-        }))
+        parts = k.parts ∙ sym (append_assoc before (p ∷ []) ps);
+        are = AreTokens-push before front p t k.are e;
+        taken = fed-push front s t k.taken ∙ h;
+      }))
       p.lexeme refl
 
   pub told : Tells bytes (outcome (length bytes) start (lexemes bytes))

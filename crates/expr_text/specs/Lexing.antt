@@ -1,7 +1,8 @@
 -- The tokens of a text, each with its place, and what stands where no token does.
-use Rattle.std.specs.Prelude.{◌≡◌, ℕ, zero, suc, pred, ◌+◌, ◌*◌, Bool, true, false, ◌&&◌, ◌||◌, ◌==◌, nat_le, if◌then◌else◌, List, [], ◌∷◌, ◌++◌, length, take, drop, bytes_eq, codes, Option, Some, None}
+use Rattle.std.specs.Prelude.{◌≡◌, ℕ, zero, suc, pred, ◌+◌, ◌*◌, Bool, true, false, ◌&&◌, ◌||◌, ◌==◌, nat_lt, nat_le, if◌then◌else◌, List, [], ◌∷◌, ◌++◌, length, take, drop, bytes_eq, codes, Option, Some, None}
 use Rattle.std.specs.Char.{digit_value, is_ascii_digit, is_ascii_hexdigit}
 use Rattle.std.specs.List.{prefix_len}
+use Rattle.db_model.specs.declared.expression.Operator.{Operator}
 use Rattle.db_model.specs.declared.expression.Operator.TheVariants as op
 use Rattle.db_model.specs.declared.limits.TheConstants.{GREATEST_NUMBER}
 use Rattle.db_model.specs.Forms.{is_between}
@@ -37,27 +38,29 @@ abbrev pub value_from : ℕ → ℕ → List ℕ → ℕ
 value_from radix n [] = n
 value_from radix n (d ∷ ds) = value_from radix (n * radix + digit_value d) ds
 
+abbrev pub number_or_fault : ℕ → Lexeme
+number_or_fault n = if nat_le n GREATEST_NUMBER then lexeme.Token (token.Number n) else lexeme.TooGreat
+
 -- a number of these digits, unless it has more of them than it may or is too great
-abbrev pub numeral : ℕ → ℕ → List ℕ → Lexeme
-numeral radix most digits = if nat_le (length digits) most && nat_le (value_from radix 0 digits) GREATEST_NUMBER then lexeme.Token (token.Number (value_from radix 0 digits)) else lexeme.TooGreat
+unfoldable pub numeral : ℕ → ℕ → List ℕ → Lexeme
+numeral radix most digits = if nat_le (length digits) most then number_or_fault (value_from radix 0 digits) else lexeme.TooGreat
 
 -- the hex digits behind `0x`
-abbrev pub hex_run : List ℕ → List ℕ
+unfoldable pub hex_run : List ℕ → List ℕ
 hex_run (a ∷ (b ∷ bs)) = if a == 0x30 && b == 0x78 then run is_ascii_hexdigit bs else []
 hex_run _ = []
 
 -- decimal where no hex digit stands behind `0x`
-abbrev pub number_by : List ℕ → List ℕ → Scanned
-number_by [] bs = let digits = run is_ascii_digit bs in scanned (numeral 10 10 digits) (length digits)
-number_by (d ∷ ds) bs = scanned (numeral 16 8 (d ∷ ds)) (2 + length (d ∷ ds))
-
-abbrev pub number : List ℕ → Scanned
-number bs = number_by (hex_run bs) bs
+unfoldable pub number : List ℕ → Scanned
+number bs =
+    let hex = hex_run bs in
+    let digits = run is_ascii_digit bs in
+    if nat_lt 0 (length hex) then scanned (numeral 16 8 hex) (2 + length hex) else scanned (numeral 10 10 digits) (length digits)
 
 -- ---- words and names
 
 -- the words that are operators
-abbrev pub operator_word : List ℕ → Option Token
+unfoldable pub operator_word : List ℕ → Option Token
 operator_word w =
     if bytes_eq w (codes "or") then Some (token.Operator binary.Or)
     else (if bytes_eq w (codes "and") then Some (token.Operator binary.And)
@@ -72,7 +75,7 @@ operator_word w =
     else None)))))))))
 
 -- the names of the functions
-abbrev pub function_word : List ℕ → Option Token
+unfoldable pub function_word : List ℕ → Option Token
 function_word w =
     if bytes_eq w (codes "buf2int") then Some (token.Call call.ToNumber)
     else (if bytes_eq w (codes "buflen") then Some (token.Call call.LengthOf)
@@ -88,18 +91,18 @@ or_else None other = other
 or_else (Some t) other = Some t
 
 -- a name, or else a reserved word; a word that is too long is neither
-abbrev pub word : List ℕ → Scanned
+unfoldable pub word : List ℕ → Scanned
 word w = one_of (if is_name w then Some (token.Name w) else or_else (operator_word w) (function_word w)) (length w)
 
 -- `#` with a name right behind it
-abbrev pub protocol : List ℕ → Scanned
+unfoldable pub protocol : List ℕ → Scanned
 protocol name = one_of (if is_name name then Some (token.Protocol name) else None) (1 + length name)
 
 -- `$` with a name right behind it, and maybe a `.` and a name right behind that
-abbrev pub column : List ℕ → List ℕ → List ℕ → Scanned
+unfoldable pub column : List ℕ → List ℕ → List ℕ → Scanned
 column table rest name = if follows 0x2e rest && is_name name then scanned (lexeme.Token (token.Column table name)) (2 + length table + length name) else scanned (lexeme.Token (token.Variable table)) (1 + length table)
 
-abbrev pub variable : List ℕ → Scanned
+unfoldable pub variable : List ℕ → Scanned
 variable bs =
     let name = run continues_name bs in
     let rest = drop (length name) bs in
@@ -109,7 +112,7 @@ variable bs =
 
 -- A text whose bytes so far are w, of n bytes with its first quote, goes on. `escape` is behind a `\`, `high` and `low` at
 -- the two digits behind `\x`. A byte or an escape that no text has makes the whole no token.
-abbrev mutual
+unfoldable mutual
   pub plain : List ℕ → ℕ → List ℕ → Scanned
   plain w n [] = scanned lexeme.Unfinished n
   plain w n (b ∷ bs) =
@@ -133,8 +136,11 @@ abbrev mutual
 
 -- ---- signs
 
+abbrev pub plain_sign : Operator → Option Token
+plain_sign o = Some (token.Operator (binary.Plain o))
+
 -- signs of one byte
-abbrev pub sign_of : ℕ → Option Token
+unfoldable pub sign_of : ℕ → Option Token
 sign_of b =
     if b == 0x28 then Some token.Open
     else (if b == 0x29 then Some token.Close
@@ -142,29 +148,29 @@ sign_of b =
     else (if b == 0x3a then Some token.Colon
     else (if b == 0x5d then Some token.CloseBracket
     else (if b == 0x2c then Some token.Comma
-    else (if b == 0x2b then Some (token.Operator (binary.Plain op.Add))
-    else (if b == 0x2d then Some (token.Operator (binary.Plain op.Sub))
-    else (if b == 0x2a then Some (token.Operator (binary.Plain op.Mul))
-    else (if b == 0x2f then Some (token.Operator (binary.Plain op.Div))
+    else (if b == 0x2b then plain_sign op.Add
+    else (if b == 0x2d then plain_sign op.Sub
+    else (if b == 0x2a then plain_sign op.Mul
+    else (if b == 0x2f then plain_sign op.Div
     else None)))))))))
 
 -- `==` and `!=`
-abbrev pub equality : ℕ → Option Token
+unfoldable pub equality : ℕ → Option Token
 equality b =
-    if b == 0x3d then Some (token.Operator (binary.Plain op.Eq))
-    else (if b == 0x21 then Some (token.Operator (binary.Plain op.Ne)) else None)
+    if b == 0x3d then plain_sign op.Eq
+    else (if b == 0x21 then plain_sign op.Ne else None)
 
-abbrev pub sign : ℕ → List ℕ → Scanned
-sign b bs = if follows 0x3d bs then signs (equality b) b else one_of (sign_of b) 1
-  where
-    signs : Option Token → ℕ → Scanned
-    signs None b = one_of (sign_of b) 1
-    signs (Some t) b = scanned (lexeme.Token t) 2
+abbrev pub two_or_one : Option Token → ℕ → Scanned
+two_or_one None b = one_of (sign_of b) 1
+two_or_one (Some t) b = scanned (lexeme.Token t) 2
+
+unfoldable pub sign : ℕ → List ℕ → Scanned
+sign b bs = if follows 0x3d bs then two_or_one (equality b) b else one_of (sign_of b) 1
 
 -- ---- the whole text
 
 -- the lexeme at the front of the bytes, as long as possible
-abbrev pub first : ℕ → List ℕ → Scanned
+unfoldable pub first : ℕ → List ℕ → Scanned
 first b bs =
     if is_ascii_digit b then number (b ∷ bs)
     else (if begins_name b then word (run continues_name (b ∷ bs))

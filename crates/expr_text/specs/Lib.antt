@@ -1,6 +1,10 @@
+pub mod Answer
 pub mod Grammar
+pub mod Laws
 pub mod Lexing
 pub mod Machine
 pub mod Outcome
 pub mod Refusal
+pub mod Sizes
+pub mod Stages
 pub mod Tokens

@@ -15,7 +15,6 @@ pub struct Frames {
 impl Model for Frames {
     ghost use Rattle.std.specs.Prelude.{List, reverse};
     ghost use Rattle.expr_text.specs.declared.machine.Frame.{Frame};
-
     ghost use Rattle.db_model.specs.contracts.expression.Expr as e;
     ghost use Rattle.std.specs.Coded.{codes};
 

@@ -11,12 +11,7 @@ use sqlite_items::Boxed;
 use std::alloc::Global;
 
 /// What an operator makes of its two operands.
-fn joined_by(
-    alloc: Global,
-    operator: BinaryOp,
-    left: Expr,
-    right: Expr,
-) -> Result<Expr, NoMemory>
+fn joined_by(alloc: Global, operator: BinaryOp, left: Expr, right: Expr) -> Result<Expr, NoMemory>
     ensures { IfOk result (λ e. e ≡ Tokens.joined_by operator left right) }
 {
     let left = Boxed::new(alloc, left)?;
@@ -44,12 +39,7 @@ fn build(alloc: Global, frame: Frame, e: Expr) -> Result<Expr, NoMemory>
 }
 
 /// The expression with all operators in front of it that end before this level.
-pub fn join_up(
-    alloc: Global,
-    level: u32,
-    e: Expr,
-    frames: &mut Frames,
-) -> Result<Expr, NoMemory>
+pub fn join_up(alloc: Global, level: u32, e: Expr, frames: &mut Frames) -> Result<Expr, NoMemory>
     ensures { IfOk result (λ whole. joined whole frames.new ≡ Machine.join level e frames.old) }
 {
     let mut whole = e;

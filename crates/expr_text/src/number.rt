@@ -7,7 +7,7 @@ use crate::runs::{digits_run, hex_run};
 use crate::token::Token;
 
 /// The value of a digit or a letter, and 36 for any other byte.
-fn digit(byte: u8) -> u8
+pub fn digit(byte: u8) -> u8
     ensures value { result ≡ digit_value byte }
     ensures bound { result ≤ 36 }
 {
@@ -51,6 +51,7 @@ fn number_or_fault(value: u64) -> Lexeme
 }
 
 /// A number of these decimal digits.
+#[tactic(auto, unfolding(crate::specs::Lexing::numeral))]
 fn decimal(digits: &[u8]) -> Lexeme
     ensures { result ≡ Lexing.numeral 10 10 digits.now }
 {
@@ -61,6 +62,7 @@ fn decimal(digits: &[u8]) -> Lexeme
 }
 
 /// A number of these hex digits.
+#[tactic(auto, unfolding(crate::specs::Lexing::numeral))]
 fn hexadecimal(digits: &[u8]) -> Lexeme
     ensures { result ≡ Lexing.numeral 16 8 digits.now }
 {
@@ -71,6 +73,7 @@ fn hexadecimal(digits: &[u8]) -> Lexeme
 }
 
 /// The number at the front of bytes that begin with a decimal digit.
+#[tactic(auto, unfolding(crate::specs::Lexing::number))]
 pub fn number(bytes: &[u8]) -> Scanned
     requires { 0 < length (Lexing.run is_ascii_digit bytes.now) }
     ensures value { result ≡ Lexing.number bytes.now }

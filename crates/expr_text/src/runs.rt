@@ -1,4 +1,4 @@
-ghost use Rattle.std.specs.Prelude.{◌≡◌, ◌<◌, ◌≤◌, ◌+◌, length};
+ghost use Rattle.std.specs.Prelude.{◌≡◌, ◌<◌, ◌≤◌, ◌+◌, IsTrue, length};
 ghost use Rattle.std.specs.List.{prefix_len};
 ghost use Rattle.std.specs.Char.{is_ascii_digit, is_ascii_hexdigit};
 ghost use Rattle.db_model.specs.Name;
@@ -8,7 +8,8 @@ use db_model::continues_name;
 
 /// Whether this byte comes next.
 pub fn follows(byte: u8, bytes: &[u8]) -> bool
-    ensures { result ≡ Lexing.follows byte bytes.now }
+    ensures value { result ≡ Lexing.follows byte bytes.now }
+    ensures within { IsTrue result → 0 < length bytes.now }
 {
     match bytes.split_first() {
         None => false,
@@ -38,7 +39,10 @@ fn digits_len(bytes: &[u8]) -> usize
     ensures len { result ≡ prefix_len is_ascii_digit bytes.now }
     ensures within { result ≤ length bytes.now }
 {
-    bytes.iter().take_while(|byte| byte.is_ascii_digit()).count()
+    bytes
+        .iter()
+        .take_while(|byte| byte.is_ascii_digit())
+        .count()
 }
 
 /// The longest front of decimal digits.
@@ -60,6 +64,7 @@ fn hex_len(bytes: &[u8]) -> usize
 }
 
 /// The hex digits behind `0x`; none where it isn't there.
+#[tactic(auto, unfolding(crate::specs::Lexing::hex_run))]
 pub fn hex_run(bytes: &[u8]) -> &[u8]
     ensures value { result.now ≡ Lexing.hex_run bytes.now }
     ensures within { 0 < length result.now → 2 + length result.now ≤ length bytes.now }

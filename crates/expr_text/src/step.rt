@@ -31,9 +31,7 @@ fn begin(frames: &mut Frames, token: Token) -> Result<Option<Mode>, NoMemory>
         Token::Name(name) => Ok(Some(Mode::Has(Expr::Field(name)))),
         Token::Protocol(name) => Ok(Some(Mode::Has(Expr::Protocol(name)))),
         Token::Variable(name) => Ok(Some(Mode::Has(Expr::Variable(name)))),
-        Token::Column { table, column } => {
-            Ok(Some(Mode::Has(Expr::Column { table, column })))
-        }
+        Token::Column { table, column } => { Ok(Some(Mode::Has(Expr::Column { table, column }))) }
         Token::Not => {
             if frames.wanted() <= 3 {
                 opened(frames, Frame::Negated)
@@ -82,22 +80,20 @@ fn close_call(alloc: Global, call: Call, e: Expr) -> Result<Option<Mode>, NoMemo
 }
 
 /// A closing parenthesis behind a whole expression.
-fn close(
-    alloc: Global,
-    e: Expr,
-    frames: &mut Frames,
-) -> Result<Option<Mode>, NoMemory>
+fn close(alloc: Global, e: Expr, frames: &mut Frames) -> Result<Option<Mode>, NoMemory>
     ensures { IfOk result (λ mode. now mode frames.new ≡ Machine.close e frames.old) }
 {
     match frames.pop() {
         None => Ok(None),
         Some(Frame::Parenthesis) => Ok(Some(Mode::Has(e))),
         Some(Frame::Argument(call)) => close_call(alloc, call, e),
-        Some(Frame::Key {
-            table,
-            renew,
-            mut keys,
-        }) => {
+        Some(
+            Frame::Key {
+                table,
+                renew,
+                mut keys,
+            },
+        ) => {
             keys.push(e)?;
             Ok(Some(Mode::Has(Expr::LookUp { table, renew, keys })))
         }
@@ -125,11 +121,13 @@ fn comma(e: Expr, frames: &mut Frames) -> Result<Option<Mode>, NoMemory>
     match frames.pop() {
         None => Ok(None),
         Some(Frame::Argument(call)) => Ok(comma_in_call(call, e)),
-        Some(Frame::Key {
-            table,
-            renew,
-            mut keys,
-        }) => {
+        Some(
+            Frame::Key {
+                table,
+                renew,
+                mut keys,
+            },
+        ) => {
             keys.push(e)?;
             opened(frames, Frame::Key { table, renew, keys })
         }
@@ -158,11 +156,7 @@ fn colon(e: Expr, frames: &mut Frames) -> Result<Option<Mode>, NoMemory>
 }
 
 /// A closing bracket behind a whole expression.
-fn close_bracket(
-    alloc: Global,
-    e: Expr,
-    frames: &mut Frames,
-) -> Result<Option<Mode>, NoMemory>
+fn close_bracket(alloc: Global, e: Expr, frames: &mut Frames) -> Result<Option<Mode>, NoMemory>
     ensures { IfOk result (λ mode. now mode frames.new ≡ Machine.close_bracket e frames.old) }
 {
     match frames.pop() {
@@ -225,11 +219,7 @@ fn go_on(
 }
 
 /// The parenthesis behind a function's name.
-fn open_call(
-    frames: &mut Frames,
-    call: Call,
-    token: Token,
-) -> Result<Option<Mode>, NoMemory>
+fn open_call(frames: &mut Frames, call: Call, token: Token) -> Result<Option<Mode>, NoMemory>
     ensures { IfOk result (λ mode. now mode frames.new ≡ Machine.open_call call frames.old token) }
 {
     match token {

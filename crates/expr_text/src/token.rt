@@ -18,12 +18,8 @@ fn plain_level(operator: Operator) -> u32
     match operator {
         Operator::Mul | Operator::Div | Operator::Mod | Operator::BitAnd => 6,
         Operator::Add | Operator::Sub | Operator::BitOr => 5,
-        Operator::Lt
-        | Operator::Le
-        | Operator::Gt
-        | Operator::Ge
-        | Operator::Eq
-        | Operator::Ne => 4,
+        Operator::Lt | Operator::Le | Operator::Gt | Operator::Ge | Operator::Eq | Operator::Ne =>
+            4,
     }
 }
 

@@ -1,4 +1,4 @@
-ghost use Rattle.std.specs.Prelude.{◌≡◌, ◌<◌, ◌≤◌, ◌+◌, IfOk, length};
+ghost use Rattle.std.specs.Prelude.{◌≡◌, ◌<◌, ◌≤◌, ◌+◌, ◌-◌, IfOk, length, drop};
 ghost use Rattle.expr_text.specs.Lexing;
 
 use crate::lexeme::{Lexeme, Scanned};
@@ -8,6 +8,7 @@ use db_model::{Name, NoMemory, Operator, is_name};
 use std::alloc::Global;
 
 /// A word that is an operator.
+#[tactic(auto, unfolding(crate::specs::Lexing::operator_word))]
 fn operator_word(word: &[u8]) -> Option<Token>
     ensures { result ≡ Lexing.operator_word word.now }
 {
@@ -37,6 +38,7 @@ fn operator_word(word: &[u8]) -> Option<Token>
 }
 
 /// The name of a function.
+#[tactic(auto, unfolding(crate::specs::Lexing::function_word))]
 fn function_word(word: &[u8]) -> Option<Token>
     ensures { result ≡ Lexing.function_word word.now }
 {
@@ -86,6 +88,7 @@ pub fn one_of(token: Option<Token>, size: usize) -> Scanned
 }
 
 /// A run of letters, digits and `_`.
+#[tactic(auto, unfolding(crate::specs::Lexing::word))]
 pub fn word(alloc: Global, word: &[u8]) -> Result<Scanned, NoMemory>
     ensures value { IfOk result (λ s. s ≡ Lexing.word word.now) }
     ensures size { IfOk result (λ s. s.size ≡ length word.now) }
@@ -98,6 +101,7 @@ pub fn word(alloc: Global, word: &[u8]) -> Result<Scanned, NoMemory>
 }
 
 /// What stands behind a `#`.
+#[tactic(auto, unfolding(crate::specs::Lexing::protocol))]
 pub fn protocol(alloc: Global, name: &[u8]) -> Result<Scanned, NoMemory>
     requires { length name.now ≤ 1024 }
     ensures value { IfOk result (λ s. s ≡ Lexing.protocol name.now) }
@@ -112,16 +116,14 @@ pub fn protocol(alloc: Global, name: &[u8]) -> Result<Scanned, NoMemory>
 }
 
 /// A column of a table, where a `.` and a name stand right behind the name of a variable; else the variable.
-fn column(
-    alloc: Global,
-    table: &[u8],
-    rest: &[u8],
-    name: &[u8],
-) -> Result<Scanned, NoMemory>
+#[tactic(auto, unfolding(crate::specs::Lexing::column))]
+fn column(alloc: Global, table: &[u8], rest: &[u8], name: &[u8]) -> Result<Scanned, NoMemory>
     requires not_empty { 0 < length table.now }
     requires table_bound { length table.now ≤ 64 }
+    requires within { length name.now ≤ length rest.now - 1 }
+    requires bound { length rest.now ≤ 1024 }
     ensures value { IfOk result (λ s. s ≡ Lexing.column table.now rest.now name.now) }
-    ensures size { IfOk result (λ s. s ≡ s) }
+    ensures size { IfOk result (λ s. (0 < s.size) × (s.size ≤ 1 + (length table.now + length rest.now))) }
 {
     let variable = Name::copy_of(alloc, table)?;
     if follows(b'.', rest) && is_name(name) {
@@ -141,7 +143,8 @@ fn column(
 }
 
 fn behind_first(bytes: &[u8]) -> &[u8]
-    ensures { result.now ≡ drop 1 bytes.now }
+    ensures value { result.now ≡ drop 1 bytes.now }
+    ensures size { length result.now ≡ length bytes.now - 1 }
 {
     match bytes.split_first() {
         None => bytes,
@@ -150,8 +153,11 @@ fn behind_first(bytes: &[u8]) -> &[u8]
 }
 
 /// What stands behind a `$`.
+#[tactic(auto, unfolding(crate::specs::Lexing::variable))]
 pub fn variable(alloc: Global, bytes: &[u8]) -> Result<Scanned, NoMemory>
+    requires { length bytes.now ≤ 1024 }
     ensures value { IfOk result (λ s. s ≡ Lexing.variable bytes.now) }
+    ensures size { IfOk result (λ s. (0 < s.size) × (s.size ≤ 1 + length bytes.now)) }
 {
     let name = word_run(bytes);
     if !is_name(name) {
