@@ -7,7 +7,7 @@ use std::test::Fail;
 type Fault = Option<(u32, u8)>;
 
 /// Texts with their faults, or none where they are expressions.
-const CASES: [(&[u8], Fault); 76] = [
+const CASES: [(&[u8], Fault); 101] = [
     (b"1+2*3", None),
     (b"3-5", None),
     (b"7 mod 0", None),
@@ -90,6 +90,31 @@ const CASES: [(&[u8], Fault); 76] = [
         b"abcdefghabcdefghabcdefghabcdefghabcdefghabcdefghabcdefghabcdefghi",
         Some((0, 1)),
     ),
+    (b"7", None),
+    (b"0x1f", None),
+    (b"'abc'", None),
+    (b"'\\x00\\x01'", None),
+    (b"'it\\'s'", None),
+    (b"#udp", None),
+    (b"head", None),
+    (b"$count", None),
+    (b"$packetlength", None),
+    (b"$sessions.next", None),
+    (b"a bitwand b bitwor c mod d", None),
+    (b"a le b", None),
+    (b"head[0:2]", None),
+    (b"buf2int(head[0:2])", None),
+    (b"buflen(head)", None),
+    (b"int2buf($count, 2)", None),
+    (b"hasstring(head, 'GET')", None),
+    (b"ispresent(head)", None),
+    (b"checklookuptable(sessions, $src, $dst)", None),
+    (b"checkupdatelookuptable(sessions, $src, $dst)", None),
+    (b"7 - 2 - 1", None),
+    (b"(1 == 1) == 1", None),
+    (b"not a == b", None),
+    (b"a == (not b)", None),
+    (b"a == not b", Some((5, 1))),
 ];
 
 /// A text with every form.
