@@ -1,0 +1,17 @@
+pub mod Accepted
+pub mod Answered
+pub mod Counting
+pub mod Finishes
+pub mod Followed
+pub mod FormsOfTokens
+pub mod Levels
+pub mod NamesInText
+pub mod NumbersInText
+pub mod Outcomes
+pub mod Pieces
+pub mod PrintedForms
+pub mod PrintedTokens
+pub mod QuotedInText
+pub mod ReadsBack
+pub mod Skipping
+pub mod Words

@@ -1,0 +1,7 @@
+use Rattle.std.proofs.Common.{◌≡◌, ◌≤◌, ◌+◌, ◌*◌, ◌^◌, drop}
+use Rattle.expr_text.specs.Lexing.{value_from}
+use Rattle.expr_text.proofs.number.decimal_value.Given as goal
+
+abbrev pub invariant-loop-d : goal.invariant-loop-d
+invariant-loop-d l =
+    (value_from 10 l.n (drop l.d-index l.digits) ≡ value_from 10 0 l.digits) × (l.n + 5 ≤ 5 * 10 ^ l.d-index)

@@ -1,0 +1,11 @@
+pub mod Answer
+pub mod Grammar
+pub mod Laws
+pub mod Lexing
+pub mod Machine
+pub mod Outcome
+pub mod Printing
+pub mod Refusal
+pub mod Sizes
+pub mod Stages
+pub mod Tokens

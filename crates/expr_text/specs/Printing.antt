@@ -1,0 +1,162 @@
+-- The canonical text of an expression.
+use Rattle.std.specs.Prelude.{◌≡◌, ◌<◌, ◌≤◌, ℕ, Bool, true, false, ◌||◌, ◌==◌, if◌then◌else◌, List, [], ◌∷◌, ◌++◌, length, codes}
+use Rattle.std.specs.Fmt.{decimal}
+use Rattle.hex.specs.Hex.{encode_lower}
+use Rattle.db_model.specs.declared.expression.Expr.{Expr, Expr-F}
+use Rattle.db_model.specs.declared.expression.Expr.TheOpen as layer
+use Rattle.db_model.specs.declared.expression.Operator.{Operator}
+use Rattle.db_model.specs.declared.expression.Operator.TheVariants as op
+use Rattle.db_model.specs.Folds.{fold_expr}
+use Rattle.db_model.specs.Forms.{is_between}
+use Rattle.db_model.specs.Names.{Text}
+use Rattle.expr_text.specs.declared.limits.TheConstants.{MOST_EXPRESSION_BYTES}
+use Rattle.expr_text.specs.Refusal.{IsSpelled, IsSmall, IsText, IsRefused}
+
+-- ---- texts
+
+-- a byte between quotes: printable ones as they are, a quote and a `\` behind a `\`, all others as two hex digits
+unfoldable pub escaped : ℕ → List ℕ
+escaped b =
+    if b == 0x27 || b == 0x5c then codes "\\" ++ b ∷ []
+    else (if is_between 0x20 0x7e b then b ∷ [] else codes "\\x" ++ encode_lower (b ∷ []))
+
+abbrev pub all_escaped : List ℕ → List ℕ
+all_escaped [] = []
+all_escaped (b ∷ bs) = escaped b ++ all_escaped bs
+
+unfoldable pub quoted : List ℕ → List ℕ
+quoted b = codes "'" ++ (all_escaped b ++ codes "'")
+
+-- ---- operators
+
+-- an operator with a space on each side
+unfoldable pub operator_text : Operator → List ℕ
+operator_text op.Add = codes " + "
+operator_text op.Sub = codes " - "
+operator_text op.Mul = codes " * "
+operator_text op.Div = codes " / "
+operator_text op.Mod = codes " mod "
+operator_text op.BitAnd = codes " bitwand "
+operator_text op.BitOr = codes " bitwor "
+operator_text op.Lt = codes " lt "
+operator_text op.Le = codes " le "
+operator_text op.Gt = codes " gt "
+operator_text op.Ge = codes " ge "
+operator_text op.Eq = codes " == "
+operator_text op.Ne = codes " != "
+
+-- ---- expressions
+
+-- the text of an expression, and whether that is a binary operation or a `not`
+pub record Printed : Type 0 where
+  pub is_compound : Bool
+  pub bytes : List ℕ
+
+abbrev pub compound : List ℕ → Printed
+compound bytes = record { is_compound = true; bytes = bytes }
+
+abbrev pub simple : List ℕ → Printed
+simple bytes = record { is_compound = false; bytes = bytes }
+
+unfoldable pub in_parentheses : List ℕ → List ℕ
+in_parentheses bytes = codes "(" ++ (bytes ++ codes ")")
+
+-- an operand, or the base of a slice, stands in parentheses where it is a binary operation or a `not`
+abbrev pub operand : Printed → List ℕ
+operand p = if p.is_compound then in_parentheses p.bytes else p.bytes
+
+unfoldable pub look_up_name : Bool → List ℕ
+look_up_name true = codes "checkupdatelookuptable"
+look_up_name false = codes "checklookuptable"
+
+-- arguments behind the first one, each behind a comma and a space
+abbrev pub arguments : List Printed → List ℕ
+arguments [] = []
+arguments (p ∷ ps) = codes ", " ++ (p.bytes ++ arguments ps)
+
+unfoldable pub protocol_text : Text → List ℕ
+protocol_text name = codes "#" ++ name
+
+unfoldable pub variable_text : Text → List ℕ
+variable_text name = codes "$" ++ name
+
+unfoldable pub column_text : Text → Text → List ℕ
+column_text table column = codes "$" ++ (table ++ (codes "." ++ column))
+
+unfoldable pub negation : List ℕ → List ℕ
+negation a = codes "not " ++ a
+
+unfoldable pub conjunction : List ℕ → List ℕ → List ℕ
+conjunction a b = a ++ (codes " and " ++ b)
+
+unfoldable pub disjunction : List ℕ → List ℕ → List ℕ
+disjunction a b = a ++ (codes " or " ++ b)
+
+unfoldable pub slice_text : List ℕ → List ℕ → List ℕ → List ℕ
+slice_text base from count = base ++ (codes "[" ++ (from ++ (codes ":" ++ (count ++ codes "]"))))
+
+unfoldable pub number_call : List ℕ → List ℕ
+number_call a = codes "buf2int" ++ in_parentheses a
+
+unfoldable pub length_call : List ℕ → List ℕ
+length_call a = codes "buflen" ++ in_parentheses a
+
+unfoldable pub bytes_call : List ℕ → ℕ → List ℕ
+bytes_call a size = codes "int2buf" ++ in_parentheses (a ++ (codes ", " ++ decimal size))
+
+unfoldable pub text_call : List ℕ → List ℕ → List ℕ
+text_call a b = codes "hasstring" ++ in_parentheses (a ++ (codes ", " ++ quoted b))
+
+unfoldable pub presence_call : Text → List ℕ
+presence_call name = codes "ispresent" ++ in_parentheses name
+
+unfoldable pub look_up_call : Bool → Text → List ℕ → List ℕ
+look_up_call renew table more = look_up_name renew ++ in_parentheses (table ++ more)
+
+abbrev pub printed_step : Expr-F Printed → Printed
+printed_step (layer.Number n) = simple (decimal n)
+printed_step (layer.Text b) = simple (quoted b)
+printed_step (layer.Protocol name) = simple (protocol_text name)
+printed_step (layer.Field name) = simple name
+printed_step (layer.Variable name) = simple (variable_text name)
+printed_step (layer.Column table column) = simple (column_text table column)
+printed_step (layer.Not a) = compound (negation (operand a))
+printed_step (layer.And a b) = compound (conjunction (operand a) (operand b))
+printed_step (layer.Or a b) = compound (disjunction (operand a) (operand b))
+printed_step (layer.Binary o a b) = compound (operand a ++ (operator_text o ++ operand b))
+printed_step (layer.Slice b from count) = simple (slice_text (operand b) from.bytes count.bytes)
+printed_step (layer.ToNumber a) = simple (number_call a.bytes)
+printed_step (layer.LengthOf a) = simple (length_call a.bytes)
+printed_step (layer.ToBytes a size) = simple (bytes_call a.bytes size)
+printed_step (layer.HasText a b) = simple (text_call a.bytes b)
+printed_step (layer.IsPresent name) = simple (presence_call name)
+printed_step (layer.LookUp table renew ks) = simple (look_up_call renew table (arguments ks))
+
+abbrev pub printing : Expr → Printed
+printing = fold_expr Printed printed_step
+
+-- the canonical text
+unfoldable pub printed : Expr → List ℕ
+printed e = (printing e).bytes
+
+-- ---- what it says of texts
+
+-- the grammar gives the expression
+pub record IsOfGrammar (e : Expr) : Type 0 where
+  pub bytes : List ℕ
+  pub spelled : IsSpelled bytes e
+
+-- the canonical text of an expression of the grammar spells it
+abbrev pub ReadsBack : Type 0
+ReadsBack = (e : Expr) → IsOfGrammar e → IsSpelled (printed e) e
+
+-- no two expressions of the grammar have one canonical text
+abbrev pub PrintsApart : Type 0
+PrintsApart = (d e : Expr) → IsOfGrammar d → IsOfGrammar e → printed d ≡ printed e → d ≡ e
+
+-- one that is small enough is the text's expression where the text isn't too long, and a longer text is refused
+abbrev pub PrintsTexts : Type 0
+PrintsTexts = (e : Expr) → IsOfGrammar e → IsSmall e → length (printed e) ≤ MOST_EXPRESSION_BYTES → IsText (printed e) e
+
+abbrev pub RefusesLong : Type 0
+RefusesLong = (e : Expr) → MOST_EXPRESSION_BYTES < length (printed e) → IsRefused (printed e) 0 4

@@ -1,0 +1,89 @@
+ghost use Rattle.std.specs.Prelude.{◌≡◌, IfOk};
+ghost use Rattle.expr_text.specs.Machine;
+ghost use Rattle.expr_text.specs.Machine.{now};
+
+use crate::machine::Mode;
+use crate::token::Token;
+use db_model::{Expr, NoMemory};
+use sqlite_items::{Boxed, Items};
+use std::alloc::Global;
+
+/// The parenthesis behind `ispresent`.
+pub fn open_present(token: Token) -> Option<Mode>
+    ensures { (k : Machine.Stack) → now result k ≡ Machine.open_present k token }
+{
+    match token {
+        Token::Open => Some(Mode::PresentName),
+        _ => None,
+    }
+}
+
+/// The name behind `ispresent(`.
+pub fn present_name(token: Token) -> Option<Mode>
+    ensures { (k : Machine.Stack) → now result k ≡ Machine.present_name k token }
+{
+    match token {
+        Token::Name(name) => Some(Mode::Closes(Expr::IsPresent(name))),
+        _ => None,
+    }
+}
+
+/// The parenthesis behind the name of a look-up.
+pub fn open_look_up(renew: bool, token: Token) -> Option<Mode>
+    ensures { (k : Machine.Stack) → now result k ≡ Machine.open_look_up renew k token }
+{
+    match token {
+        Token::Open => Some(Mode::TableName { renew }),
+        _ => None,
+    }
+}
+
+/// The name of a look-up's table.
+pub fn table_name(alloc: Global, renew: bool, token: Token) -> Option<Mode>
+    ensures { (k : Machine.Stack) → now result k ≡ Machine.table_name renew k token }
+{
+    match token {
+        Token::Name(table) => Some(Mode::Keys {
+            table,
+            renew,
+            keys: Items::new(alloc),
+        }),
+        _ => None,
+    }
+}
+
+/// The number behind the comma of `int2buf`.
+pub fn size(alloc: Global, e: Expr, token: Token) -> Result<Option<Mode>, NoMemory>
+    ensures { (k : Machine.Stack) → IfOk result (λ mode. now mode k ≡ Machine.size e k token) }
+{
+    match token {
+        Token::Number(size) => {
+            let value = Boxed::new(alloc, e)?;
+            Ok(Some(Mode::Closes(Expr::ToBytes { value, size })))
+        }
+        _ => Ok(None),
+    }
+}
+
+/// The text behind the comma of `hasstring`.
+pub fn searched(alloc: Global, e: Expr, token: Token) -> Result<Option<Mode>, NoMemory>
+    ensures { (k : Machine.Stack) → IfOk result (λ mode. now mode k ≡ Machine.searched e k token) }
+{
+    match token {
+        Token::Text(text) => {
+            let within = Boxed::new(alloc, e)?;
+            Ok(Some(Mode::Closes(Expr::HasText { within, text })))
+        }
+        _ => Ok(None),
+    }
+}
+
+/// The parenthesis that closes an expression which is complete but for it.
+pub fn closes(e: Expr, token: Token) -> Option<Mode>
+    ensures { (k : Machine.Stack) → now result k ≡ Machine.closes e k token }
+{
+    match token {
+        Token::Close => Some(Mode::Has(e)),
+        _ => None,
+    }
+}

@@ -1,0 +1,105 @@
+ghost use Rattle.std.specs.Prelude.{◌≡◌, [], ◌∷◌, OnOk, IfSome, IfNone};
+ghost use Rattle.expr_text.specs.Machine;
+
+use crate::machine::Frame;
+use db_model::NoMemory;
+use std::alloc::Global;
+use std::marker::Model;
+
+/// What is open, seen as a list with the innermost first.
+#[derive(Debug, Drop)]
+pub struct Frames {
+    frames: Vec<Frame>,
+}
+
+impl Model for Frames {
+    ghost use Rattle.std.specs.Prelude.{List, reverse};
+    ghost use Rattle.expr_text.specs.declared.machine.Frame.{Frame};
+    ghost use Rattle.db_model.specs.contracts.expression.Expr as e;
+    ghost use Rattle.std.specs.Coded.{codes};
+
+    ghost Value = { List Frame };
+
+    ghost coded = { Prim.hlevel (codes, e.the_row.coded) };
+
+    ghost view = { λ s. reverse s.frames.items };
+}
+
+fn wanted_by(frame: &Frame) -> u32
+    ensures { result ≡ Machine.wanted_by frame.now }
+{
+    match frame {
+        Frame::Operand(operator, _) => operator.level() + 1,
+        Frame::Negated => 3,
+        Frame::Parenthesis
+        | Frame::Start(_)
+        | Frame::Length(_, _)
+        | Frame::Argument(_)
+        | Frame::Key { .. } => 1,
+    }
+}
+
+fn binds(level: u32, frame: &Frame) -> bool
+    ensures { result ≡ Machine.binds level frame.now }
+{
+    match frame {
+        Frame::Operand(operator, _) => level <= operator.level(),
+        Frame::Negated => level <= 3,
+        Frame::Parenthesis
+        | Frame::Start(_)
+        | Frame::Length(_, _)
+        | Frame::Argument(_)
+        | Frame::Key { .. } => false,
+    }
+}
+
+impl Frames {
+    /// Takes no memory.
+    pub fn new(alloc: Global) -> Frames
+        ensures { result ≡ [] }
+    {
+        Frames {
+            frames: Vec::new(alloc),
+        }
+    }
+
+    pub fn push(&mut self, frame: Frame) -> Result<(), NoMemory>
+        ensures { OnOk result (self.new ≡ frame ∷ self.old) }
+    {
+        self.frames.push(frame)?;
+        Ok(())
+    }
+
+    pub fn pop(&mut self) -> Option<Frame>
+        ensures popped { IfSome result (λ frame. self.old ≡ frame ∷ self.new) }
+        ensures empty { IfNone result ((self.old ≡ []) × (self.new ≡ [])) }
+    {
+        self.frames.pop()
+    }
+
+    /// The least level that an expression may have here.
+    pub fn wanted(&self) -> u32
+        ensures { result ≡ Machine.wanted self.now }
+    {
+        match self.frames.last() {
+            None => 1,
+            Some(frame) => wanted_by(frame),
+        }
+    }
+
+    /// Whether the innermost frame ends where what follows has at most this level.
+    pub fn ends(&self, level: u32) -> bool
+        ensures { result ≡ Machine.ends level self.now }
+    {
+        match self.frames.last() {
+            None => false,
+            Some(frame) => binds(level, frame),
+        }
+    }
+
+    pub fn is_empty(&self) -> bool
+        ensures { result ≡ Machine.is_empty self.now }
+    {
+        self.frames.is_empty()
+    }
+}
