@@ -129,7 +129,7 @@ pub fn to_bytes(alloc: Global, n: u32, size: u32) -> Result<Operand, EvalEnd>
     if !is_within(n, size) {
         return Err(EvalEnd::Fault(Reason::Range));
     }
-    // No grammar gives such a size, and no memory is taken for it.
+    // No typed expression has such a size, and no memory is taken for it.
     if size as usize > MOST_BYTES {
         return Err(EvalEnd::NoMemory);
     }
