@@ -6,6 +6,7 @@ ghost use Rattle.expr_eval.specs.declared.operand.Operand.TheVariants.{Own};
 ghost use Rattle.expr_eval.specs.Operand.{shown, seen};
 
 use crate::EvalEnd;
+use crate::values::of_truth;
 use db_model::{Bytes, MOST_BYTES, Value};
 use std::alloc::Global;
 
@@ -34,6 +35,17 @@ pub fn piece(bytes: &[u8], from: u32, count: u32) -> &[u8]
     rest.get(..count as usize).unwrap_or(rest)
 }
 
+/// The bytes of a value, none where it has none.
+pub fn bytes_of(value: &Value) -> &[u8]
+    ensures bytes { result.now ≡ buf value.now }
+    ensures bound { length result.now ≤ MOST_BYTES }
+{
+    match value {
+        Value::Buf(bytes) => bytes.as_slice(),
+        Value::Num(_) | Value::Proto(_) => &[],
+    }
+}
+
 impl Operand {
     pub fn of_number(n: u32) -> Operand
         ensures { result ≡ Own (Num n) }
@@ -45,7 +57,7 @@ impl Operand {
     pub fn of_truth(so: bool) -> Operand
         ensures { result ≡ Own (truth so) }
     {
-        Operand::of_number(so as u32)
+        Operand::Own(of_truth(so))
     }
 
     /// 0 where it is no number.
@@ -71,8 +83,7 @@ impl Operand {
         ensures bound { length result.now ≤ MOST_BYTES }
     {
         match self {
-            Operand::Own(Value::Buf(bytes)) => bytes.as_slice(),
-            Operand::Own(Value::Num(_) | Value::Proto(_)) => &[],
+            Operand::Own(value) => bytes_of(value),
             Operand::Piece { from, count } => piece(packet.as_slice(), *from, *count),
         }
     }

@@ -10,7 +10,7 @@ ghost use Rattle.expr_eval.specs.Evaluates.{Gave};
 ghost use Rattle.expr_eval.specs.Operand.{shown, seen};
 
 use crate::EvalEnd;
-use crate::operand::{Operand, View, piece};
+use crate::operand::{Operand, View, bytes_of, piece};
 use db_model::{Bytes, MOST_BYTES, MOST_NUMBER_BYTES, Operator, Reason, Value};
 use memchr::memmem;
 use std::alloc::Global;
@@ -22,16 +22,6 @@ fn number(x: View<'_>) -> u32
     match x {
         View::Number(n) => n,
         View::Bytes(_) | View::Protocol(_) => 0,
-    }
-}
-
-/// No bytes where it has none.
-pub fn bytes<'a>(x: View<'a>) -> &'a [u8]
-    ensures { result.now ≡ buf (seen x.entry) }
-{
-    match x {
-        View::Bytes(bytes) => bytes,
-        View::Number(_) | View::Protocol(_) => &[],
     }
 }
 
@@ -149,17 +139,6 @@ fn last_bytes(alloc: Global, n: u32, size: u32) -> Result<Vec<u8>, EvalEnd>
     }
     bytes.reverse();
     Ok(bytes)
-}
-
-/// The bytes of a value, none where it has none.
-fn bytes_of(value: &Value) -> &[u8]
-    ensures bytes { result.now ≡ buf value.now }
-    ensures bound { length result.now ≤ MOST_BYTES }
-{
-    match value {
-        Value::Buf(bytes) => bytes.as_slice(),
-        Value::Num(_) | Value::Proto(_) => &[],
-    }
 }
 
 /// `count` bytes from the place `from` on, where there are so many.
