@@ -1,5 +1,5 @@
 -- The laws of the definitions, each in the words of its subject.
-use Rattle.std.specs.Prelude.{◌≡◌, ℕ, suc, Bool, true, ◌+◌, ◌≤◌, List, [], ◌∷◌, ◌++◌, length, drop, slice_get, ◌↔◌, Some, None}
+use Rattle.std.specs.Prelude.{◌≡◌, ℕ, Bool, true, ◌+◌, ◌≤◌, List, [], ◌∷◌, ◌++◌, length, drop, slice_get, ◌↔◌, Some, None}
 use Rattle.db_model.specs.declared.database.Database.{Database}
 use Rattle.db_model.specs.declared.database.Protocol.{Protocol}
 use Rattle.db_model.specs.declared.database.TableDecl.{TableDecl}
@@ -8,11 +8,12 @@ use Rattle.db_model.specs.declared.entry.NewEntry.{NewEntry}
 use Rattle.db_model.specs.declared.limits.TheConstants.{MOST_NESTED}
 use Rattle.db_model.specs.declared.packet.Packet.{Packet}
 use Rattle.db_model.specs.declared.question.Question.{Question}
-use Rattle.db_model.specs.Chain.{elements_of}
 use Rattle.db_model.specs.Decoding.{dec}
-use Rattle.db_model.specs.Elements.{list_within}
+use Rattle.db_model.specs.Elements.{block_of, included}
 use Rattle.db_model.specs.Fitting.{question_fits, session_fits, answer_fits, table_of}
 use Rattle.db_model.specs.Kept.{Kept, made_by_put}
+use Rattle.db_model.specs.Names.{Text}
+use Rattle.db_model.specs.Numbering.{block_at}
 use Rattle.db_model.specs.Objection.{IsChecked}
 use Rattle.db_model.specs.Questions.{Gives, Asking, Log, Step, pure, ◌then◌, State, from}
 use Rattle.db_model.specs.Replay.{after, Agrees, differs}
@@ -49,9 +50,10 @@ SerialFrom = (db : Database) (s : Session) (ps : List Packet) (m k : ℕ) → (s
 abbrev pub SerialFront : Type 0
 SerialFront = (db : Database) (s : Session) (ps qs : List Packet) (k : ℕ) → k ≤ length ps → state db s (ps ++ qs) k ≡ state db s ps k
 
--- the levels of included blocks are enough: in a checked database one more changes nothing
-abbrev pub IncludesEnd : Type 0
-IncludesEnd = (db : Database) (q : ℕ) (p : Protocol) → IsChecked db → slice_get db.protocols q ≡ Some p → list_within db p MOST_NESTED (elements_of p) ≡ list_within db p (suc MOST_NESTED) (elements_of p)
+-- the levels of included blocks are enough: in a checked database a name means the block of that name in which each name means the same, however deep it stands, and more levels mean nothing else. So each named block may be compiled by itself, and an include be a jump to it
+pub record IncludesEnd : Type 0 where
+  pub is_block : (db : Database) (q : ℕ) (p : Protocol) (name : Text) → IsChecked db → slice_get db.protocols q ≡ Some p → included db p MOST_NESTED name ≡ block_of db p (included db p MOST_NESTED) (block_at p name)
+  pub more_levels : (db : Database) (q : ℕ) (p : Protocol) (name : Text) (n : ℕ) → IsChecked db → slice_get db.protocols q ≡ Some p → MOST_NESTED ≤ n → included db p n name ≡ included db p MOST_NESTED name
 
 -- in a table to which entries were only put, no two of a part have the same keys and masks, and the declared lengths hold
 abbrev pub PutKeeps : Type 0
