@@ -281,12 +281,12 @@ module _ (db : Database) (p : Protocol) where
 
 -- ---- a checked database
 
-over_none : {A : Type 0} (f : A → Lines) (xs : List A) (q : ℕ) (x : A) → over f xs ≡ [] → slice_get xs q ≡ Some x → f x ≡ []
+pub over_none : {A : Type 0} (f : A → Lines) (xs : List A) (q : ℕ) (x : A) → over f xs ≡ [] → slice_get xs q ≡ Some x → f x ≡ []
 over_none f [] q x e g = (cc)
 over_none f (y ∷ xs) zero x e g = let same : y ≡ x = cc in subst (λ z. f z ≡ []) same (append_front (f y) (over f xs) e)
 over_none f (y ∷ xs) (suc q) x e g = over_none f xs q x (append_back (f y) (over f xs) e) g
 
-line_none : (line : ℕ) (b : Bool) → at_line line b ≡ [] → b ≡ false
+pub line_none : (line : ℕ) (b : Bool) → at_line line b ≡ [] → b ≡ false
 line_none line true e = (cc)
 line_none line false e = refl
 

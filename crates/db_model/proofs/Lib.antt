@@ -7,5 +7,6 @@ pub mod LawsHold
 pub mod BareDb
 pub mod Accepted
 pub mod Includes
+pub mod Cycles
 pub mod Layers
 pub mod Fitted

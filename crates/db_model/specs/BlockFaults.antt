@@ -1,5 +1,5 @@
 -- The faults of included blocks: one that includes itself (45), and blocks and loops that stand too deep in one another (46).
-use Rattle.std.specs.Prelude.{ℕ, zero, suc, Bool, true, false, not, ◌||◌, ◌&&◌, List, [], ◌∷◌, ◌++◌, map, length, bytes_eq, is_some, Option, Some, None}
+use Rattle.std.specs.Prelude.{◌≡◌, ℕ, zero, suc, Bool, true, false, not, ◌||◌, ◌&&◌, List, [], ◌∷◌, ◌++◌, map, length, bytes_eq, is_some, Option, Some, None}
 use Rattle.std.specs.List.{list_any, list_all}
 use Rattle.db_model.specs.declared.database.Database.{Database}
 use Rattle.db_model.specs.declared.database.NamedBlock.{NamedBlock}
@@ -39,6 +39,15 @@ included_by None = []
 included_by (Some b) = includes_in b.body
 
 -- ---- a block that includes itself
+
+-- a name includes another: it stands in the block of the one
+abbrev pub Includes : Protocol → Text → Text → Type 0
+Includes p a b = list_any (bytes_eq b) (included_by (block_at p a)) ≡ true
+
+-- a name includes another at once, or through others, however many
+pub data Reaches (p : Protocol) : Text → Text → Type 0 where
+  AtOnce : (a b : Text) → Includes p a b → Reaches p a b
+  Through : (a b c : Text) → Includes p a b → Reaches p b c → Reaches p a c
 
 -- whether a block is among the names, or is included by one of them through at most so many others
 abbrev pub reaches : Protocol → Text → ℕ → List Text → Bool

@@ -1,6 +1,7 @@
 -- The laws of the definitions, each in the words of its subject.
 use Rattle.std.specs.Prelude.{◌≡◌, ℕ, Bool, true, ◌+◌, ◌≤◌, List, [], ◌∷◌, ◌++◌, length, drop, slice_get, ◌↔◌, Some, None}
 use Rattle.db_model.specs.declared.database.Database.{Database}
+use Rattle.db_model.specs.declared.database.NamedBlock.{NamedBlock}
 use Rattle.db_model.specs.declared.database.Protocol.{Protocol}
 use Rattle.db_model.specs.declared.database.TableDecl.{TableDecl}
 use Rattle.db_model.specs.declared.entry.Entry.{Entry}
@@ -8,12 +9,13 @@ use Rattle.db_model.specs.declared.entry.NewEntry.{NewEntry}
 use Rattle.db_model.specs.declared.limits.TheConstants.{MOST_NESTED}
 use Rattle.db_model.specs.declared.packet.Packet.{Packet}
 use Rattle.db_model.specs.declared.question.Question.{Question}
+use Rattle.db_model.specs.BlockFaults.{firsts, includes_itself, Reaches, protocol_45}
 use Rattle.db_model.specs.Decoding.{dec}
 use Rattle.db_model.specs.Elements.{block_of, included}
 use Rattle.db_model.specs.Fitting.{question_fits, session_fits, answer_fits, table_of}
 use Rattle.db_model.specs.Kept.{Kept, made_by_put}
 use Rattle.db_model.specs.Names.{Text}
-use Rattle.db_model.specs.Numbering.{block_at}
+use Rattle.db_model.specs.Numbering.{block_at, blocks_in}
 use Rattle.db_model.specs.Objection.{IsChecked}
 use Rattle.db_model.specs.Questions.{Gives, Asking, Log, Step, pure, ◌then◌, State, from}
 use Rattle.db_model.specs.Replay.{after, Agrees, differs}
@@ -54,6 +56,11 @@ SerialFront = (db : Database) (s : Session) (ps qs : List Packet) (k : ℕ) → 
 pub record IncludesEnd : Type 0 where
   pub is_block : (db : Database) (q : ℕ) (p : Protocol) (name : Text) → IsChecked db → slice_get db.protocols q ≡ Some p → included db p MOST_NESTED name ≡ block_of db p (included db p MOST_NESTED) (block_at p name)
   pub more_levels : (db : Database) (q : ℕ) (p : Protocol) (name : Text) (n : ℕ) → IsChecked db → slice_get db.protocols q ≡ Some p → MOST_NESTED ≤ n → included db p n name ≡ included db p MOST_NESTED name
+
+-- the bounded walk of fault 45 finds every cycle: the first block of a name includes itself exactly where the name leads back to itself, through however many blocks, and a protocol is without the fault exactly where none does
+pub record CyclesFound : Type 0 where
+  pub of_block : (p : Protocol) (k : ℕ) (b : NamedBlock) → slice_get (firsts [] (blocks_in p.format)) k ≡ Some b → (includes_itself p b ≡ true) ↔ Reaches p b.name b.name
+  pub of_protocol : (p : Protocol) → (protocol_45 p ≡ []) ↔ ((name : Text) → Reaches p name name → ⊥)
 
 -- in a table to which entries were only put, no two of a part have the same keys and masks, and the declared lengths hold
 abbrev pub PutKeeps : Type 0
