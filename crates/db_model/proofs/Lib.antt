@@ -9,3 +9,6 @@ pub mod Accepted
 pub mod Includes
 pub mod Layers
 pub mod Fitted
+pub mod Proper
+pub mod ProperRuns
+pub mod ProperDecoding
