@@ -12,3 +12,4 @@ pub mod Fitted
 pub mod Proper
 pub mod ProperRuns
 pub mod ProperDecoding
+pub mod Typed

@@ -1,20 +1,23 @@
 -- The laws of the definitions, each in the words of its subject.
-use Rattle.std.specs.Prelude.{◌≡◌, ℕ, suc, Bool, true, ◌+◌, ◌<◌, ◌≤◌, List, [], ◌∷◌, ◌++◌, length, drop, slice_get, ◌↔◌, Some, None}
+use Rattle.std.specs.Prelude.{◌≡◌, ℕ, suc, Bool, true, ◌+◌, ◌<◌, ◌≤◌, List, [], ◌∷◌, ◌++◌, length, drop, slice_get, ◌↔◌, Some, None, Ok}
 use Rattle.db_model.specs.declared.database.Database.{Database}
 use Rattle.db_model.specs.declared.database.Protocol.{Protocol}
 use Rattle.db_model.specs.declared.database.TableDecl.{TableDecl}
 use Rattle.db_model.specs.declared.entry.Entry.{Entry}
 use Rattle.db_model.specs.declared.entry.NewEntry.{NewEntry}
+use Rattle.db_model.specs.declared.env.Env.{Env}
 use Rattle.db_model.specs.declared.expression.Expr.{Expr}
 use Rattle.db_model.specs.declared.limits.TheConstants.{MOST_NESTED, MOST_QUESTIONS, STAMP_END}
 use Rattle.db_model.specs.declared.packet.Packet.{Packet}
 use Rattle.db_model.specs.declared.question.Question.{Question}
 use Rattle.db_model.specs.declared.tree.Proto.{Proto}
+use Rattle.db_model.specs.declared.value.Ty.{Ty}
+use Rattle.db_model.specs.declared.value.Value.{Value}
 use Rattle.db_model.specs.Chain.{elements_of, chain}
 use Rattle.db_model.specs.Decoding.{decoding, dec}
 use Rattle.db_model.specs.Elements.{list_within, list}
-use Rattle.db_model.specs.Expression.{val}
-use Rattle.db_model.specs.Fitting.{look_fits, add_fits, question_fits, log_fits, table_fits, session_fits, hit_fits, answer_fits, table_of}
+use Rattle.db_model.specs.Expression.{val, taken_as}
+use Rattle.db_model.specs.Fitting.{look_fits, add_fits, question_fits, log_fits, table_fits, session_fits, has_type, hit_fits, answer_fits, table_of}
 use Rattle.db_model.specs.Kept.{Kept, made_by_put}
 use Rattle.db_model.specs.Objection.{IsChecked}
 use Rattle.db_model.specs.Questions.{Asks, Gives, Asking, and_then, Log, Played, play, Step, pure, ◌then◌, State, from}
@@ -24,6 +27,8 @@ use Rattle.db_model.specs.Proper.{Proper, Leaves, TakesFrom, Any, AnyEnd, left_i
 use Rattle.db_model.specs.Replay.{after, Agrees, differs}
 use Rattle.db_model.specs.Serial.{state, decoded_at}
 use Rattle.db_model.specs.Session.{Session, declared, ask}
+use Rattle.db_model.specs.Typed.{env_fits, Gets, IsTyped}
+use Rattle.db_model.specs.Typing.{type_of}
 use Rattle.db_model.specs.Table.{Parts, KeyList, add, look}
 
 -- unchanged answers, unchanged decoding: where the log of the one agrees with the other session, decoding from there gives the same tree and log, and the session that the log leaves there
@@ -115,6 +120,14 @@ InTime ps = (i : ℕ) (p : Packet) → slice_get ps i ≡ Some p → p.stamp < S
 -- and so is each of packets decoded one by one, and each state between them fits
 abbrev pub SerialFits : Type 0
 SerialFits = (db : Database) (s : Session) (ps : List Packet) (k : ℕ) → IsChecked db → session_fits db s ≡ true → InTime ps → (session_fits db (state db s ps k) ≡ true) × DecodesFitting db (decoded_at db s ps k)
+
+-- the value of a typed expression has its type, whatever answers that fit it gets, from a state that fits; and the state after it fits
+abbrev pub TypedValues : Type 0
+TypedValues = (db : Database) (fields : List Text) (e : Expr) (ty : Ty) (z : Env) → type_of db fields e ≡ Ok ty → env_fits db z ≡ true → Gets db (λ r. IsTyped db ty r.0 × (env_fits db r.1 ≡ true)) (val db fields e z)
+
+-- a value that has a type is itself where it is taken as one of that type, as the data values of an update are
+abbrev pub TakenAsItself : Type 0
+TakenAsItself = (db : Database) (ty : Ty) (v : Value) → has_type db ty v ≡ true → taken_as (length db.protocols) ty v ≡ v
 
 -- a computation that leaves its questions open says the same as one that carries session and log through its state: a result leaves the state, one computation after another is the one after the other on whole states, and a question is answered by the session, with its pair behind the log
 pub record CarriesState (S A B : Type 0) : Type 0 where

@@ -30,4 +30,5 @@ pub mod Shape
 pub mod Special
 pub mod Table
 pub mod TypeFaults
+pub mod Typed
 pub mod Typing

@@ -1,6 +1,6 @@
 //! The laws of the definitions, each the contract of a function that does nothing.
 
-ghost use Rattle.db_model.specs.Laws.{UnchangedDecoding, UnchangedComputation, DiffersNowhere, AgreesInParts, SessionOfDecoding, SerialFrom, SerialFront, IncludesEnd, PutKeeps, TableKeeps, TableFits, FitsStay, DeclaredFits, AsksProperly, ProperComputations, AfterFits, DecodingFits, SerialFits, CarriesState};
+ghost use Rattle.db_model.specs.Laws.{UnchangedDecoding, UnchangedComputation, DiffersNowhere, AgreesInParts, SessionOfDecoding, SerialFrom, SerialFront, IncludesEnd, PutKeeps, TableKeeps, TableFits, FitsStay, DeclaredFits, AsksProperly, ProperComputations, AfterFits, DecodingFits, SerialFits, TypedValues, TakenAsItself, CarriesState};
 
 /// Where the log of a decoding agrees with another session, decoding from there gives the same tree and log.
 pub fn unchanged_decoding()
@@ -90,6 +90,16 @@ pub fn decoding_fits()
 /// Packets decoded one by one from a session that fits leave sessions that fit.
 pub fn serial_fits()
     ensures { SerialFits }
+{}
+
+/// The value of a typed expression has its type.
+pub fn typed_values()
+    ensures { TypedValues }
+{}
+
+/// A value that has a type is itself where it is taken as one of that type.
+pub fn taken_as_itself()
+    ensures { TakenAsItself }
 {}
 
 /// Leaving questions open says the same as carrying session and log through the state.
