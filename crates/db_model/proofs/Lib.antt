@@ -10,3 +10,7 @@ pub mod Includes
 pub mod Cycles
 pub mod Layers
 pub mod Fitted
+pub mod Proper
+pub mod ProperRuns
+pub mod ProperDecoding
+pub mod Typed

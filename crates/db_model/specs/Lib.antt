@@ -20,6 +20,7 @@ pub mod Numbering
 pub mod Numbers
 pub mod Objection
 pub mod Over
+pub mod Proper
 pub mod Questions
 pub mod Reason
 pub mod Replay
@@ -30,4 +31,5 @@ pub mod Shape
 pub mod Special
 pub mod Table
 pub mod TypeFaults
+pub mod Typed
 pub mod Typing
