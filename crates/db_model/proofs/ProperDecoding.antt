@@ -1,6 +1,6 @@
 -- The decoding of a packet asks properly in a checked database, and leaves a session that fits.
 use Rattle.std.specs.Prelude.{◌≡◌, ℕ, zero, suc, ◌<◌, ◌≤◌, Bool, true, false, not, ◌&&◌, if◌then◌else◌, List, [], ◌∷◌, ◌++◌, map, length, slice_get, bytes_eq, Option, Some, None}
-use Rattle.std.proofs.Common.{refl, subst, arith}
+use Rattle.std.proofs.Common.{refl, ap, subst, ◌∙◌, arith}
 use Rattle.std.specs.List.{list_any, list_all}
 use Rattle.db_model.specs.declared.database.Database.{Database}
 use Rattle.db_model.specs.declared.database.ElementList.{ElementList}
@@ -39,7 +39,8 @@ use Rattle.db_model.specs.Shape.{ListKind, FieldList, CodeList, EncapList, stand
 use Rattle.db_model.specs.TypeFaults.{own_47, fault_47}
 use Rattle.db_model.specs.Typing.{is_among, is_protocol}
 use Rattle.db_model.proofs.Accepted.{append_front, append_back, no_faults}
-use Rattle.db_model.proofs.Fitted.{and_first, and_second}
+use Rattle.db_model.proofs.Fitted.{and_first, and_second, after_fits}
+use Rattle.db_model.proofs.Play.{session_after}
 use Rattle.db_model.proofs.Proper.{proper_then, proper_plays}
 use Rattle.db_model.proofs.ProperRuns.{IsProper, proper_leave, proper_block, AllParts, each_proper, line_false, element_proper}
 
@@ -222,8 +223,13 @@ module _ (db : Database) (c : IsChecked db) where
   pub decodes_fitting : (p : Packet) (s : Session) → p.stamp < STAMP_END → session_fits db s ≡ true → DecodesFitting db (dec db p s)
   unfolding dec
   decodes_fitting p s l h =
-      let r = proper_plays db AnyEnd p.stamp l MOST_QUESTIONS (decoding db p) s (decoding_proper p) h in
-      record { log = r.log; session = r.session; most = omega (arith, r.taken) }
+      let r = proper_plays db AnyEnd p.stamp MOST_QUESTIONS (decoding db p) s (decoding_proper p) in
+      let after_it = session_after db p.stamp (decoding db p) s in
+      record {
+        log = r.log;
+        session = ap (session_fits db) after_it ∙ after_fits db p.stamp (play db p.stamp (decoding db p) s).log s h r.log l;
+        most = omega (arith, r.taken);
+      }
 
   decoded_fitting : (o : Option Packet) (s : Session) → ((p : Packet) → o ≡ Some p → p.stamp < STAMP_END) → session_fits db s ≡ true → DecodesFitting db (decoded db o s)
   decoded_fitting None s l h = record { log = refl; session = h; most = omega arith }

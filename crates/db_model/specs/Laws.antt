@@ -93,11 +93,11 @@ pub record AsksProperly : Type 0 where
   pub list : (db : Database) (q : ℕ) (p : Protocol) (at : Counts) → IsChecked db → slice_get db.protocols q ≡ Some p → TakesFrom db left_in_frame Any (list db p (elements_of p) at)
   pub expression : (db : Database) (fields : List Text) (e : Expr) → TakesFrom db left_in Any (val db fields e)
 
--- one computation after another asks properly exactly where the first does, and then the second from what is left. And what is played of them over a session that fits: the first, where the second follows, and a step
+-- one computation after another asks properly exactly where the first does, and then the second from what is left. And what is played of them over any session: the first, where the second follows, and a step
 pub record ProperComputations (S A B : Type 0) : Type 0 where
   pub one_after_another : (db : Database) (n : ℕ) (x : Asks A) (f : A → Asks B) → Proper db AnyEnd n (and_then x f) ↔ Proper db (λ a m. Proper db AnyEnd m (f a)) n x
-  pub first : (db : Database) (n t : ℕ) (x : Asks A) (f : A → Asks B) (s : Session) → t < STAMP_END → Proper db AnyEnd n (and_then x f) → session_fits db s ≡ true → PlaysProper db (λ a m. Proper db AnyEnd m (f a)) n (play db t x s)
-  pub step : (db : Database) (left : S → ℕ) (n t : ℕ) (x : Asks (A × S)) (s : Session) → t < STAMP_END → Proper db (Leaves left Any) n x → session_fits db s ≡ true → PlaysProper db (Leaves left Any) n (play db t x s)
+  pub first : (db : Database) (n t : ℕ) (x : Asks A) (f : A → Asks B) (s : Session) → Proper db AnyEnd n (and_then x f) → PlaysProper db (λ a m. Proper db AnyEnd m (f a)) n (play db t x s)
+  pub step : (db : Database) (left : S → ℕ) (n t : ℕ) (x : Asks (A × S)) (s : Session) → Proper db (Leaves left Any) n x → PlaysProper db (Leaves left Any) n (play db t x s)
 
 -- a log of questions that fit leaves a session that fits
 abbrev pub AfterFits : Type 0

@@ -72,7 +72,7 @@ pub fn asks_properly()
     ensures { AsksProperly }
 {}
 
-/// How computations that ask properly are put together, and what they give over a session that fits.
+/// How computations that ask properly are put together, and what they give over a session.
 pub fn proper_computations<S, A, B>()
     ensures { ProperComputations S A B }
 {}
