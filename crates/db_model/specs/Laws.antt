@@ -10,7 +10,6 @@ use Rattle.db_model.specs.declared.expression.Expr.{Expr}
 use Rattle.db_model.specs.declared.limits.TheConstants.{MOST_NESTED, MOST_QUESTIONS, STAMP_END}
 use Rattle.db_model.specs.declared.packet.Packet.{Packet}
 use Rattle.db_model.specs.declared.question.Question.{Question}
-use Rattle.db_model.specs.declared.tree.Proto.{Proto}
 use Rattle.db_model.specs.declared.value.Ty.{Ty}
 use Rattle.db_model.specs.declared.value.Value.{Value}
 use Rattle.db_model.specs.Chain.{elements_of, chain}
@@ -20,7 +19,7 @@ use Rattle.db_model.specs.Expression.{val, taken_as}
 use Rattle.db_model.specs.Fitting.{look_fits, add_fits, question_fits, log_fits, table_fits, session_fits, has_type, hit_fits, answer_fits, table_of}
 use Rattle.db_model.specs.Kept.{Kept, made_by_put}
 use Rattle.db_model.specs.Objection.{IsChecked}
-use Rattle.db_model.specs.Questions.{Asks, Gives, Asking, and_then, Log, Played, play, Step, pure, ◌then◌, State, from}
+use Rattle.db_model.specs.Questions.{Asks, Gives, Asking, and_then, Log, play, Step, pure, ◌then◌, State, from}
 use Rattle.db_model.specs.Names.{Text}
 use Rattle.db_model.specs.Numbering.{Counts}
 use Rattle.db_model.specs.Proper.{Proper, Leaves, TakesFrom, Any, AnyEnd, left_in, left_in_frame, PlaysProper}
@@ -103,23 +102,21 @@ pub record ProperComputations (S A B : Type 0) : Type 0 where
 abbrev pub AfterFits : Type 0
 AfterFits = (db : Database) (t : ℕ) (l : Log) (s : Session) → session_fits db s ≡ true → log_fits db l ≡ true → t < STAMP_END → session_fits db (after db t l s) ≡ true
 
--- a decoding whose questions fit and are at most as many as a packet may ask, and that leaves a session that fits
-pub record DecodesFitting (db : Database) (d : Played (List Proto)) : Type 0 where
-  pub log : log_fits db d.log ≡ true
-  pub session : session_fits db d.session ≡ true
-  pub most : length d.log ≤ MOST_QUESTIONS
-
--- from a session that fits each decoding in a checked database is such a one
-abbrev pub DecodingFits : Type 0
-DecodingFits = (db : Database) (p : Packet) (s : Session) → IsChecked db → p.stamp < STAMP_END → session_fits db s ≡ true → DecodesFitting db (dec db p s)
+-- in a checked database each question of a decoding fits and there are at most as many as a packet may ask; and from a session that fits, at a stamp, it leaves one that fits
+pub record DecodingFits : Type 0 where
+  pub log : (db : Database) (p : Packet) (s : Session) → IsChecked db → log_fits db (dec db p s).log ≡ true
+  pub most : (db : Database) (p : Packet) (s : Session) → IsChecked db → length (dec db p s).log ≤ MOST_QUESTIONS
+  pub session : (db : Database) (p : Packet) (s : Session) → IsChecked db → p.stamp < STAMP_END → session_fits db s ≡ true → session_fits db (dec db p s).session ≡ true
 
 -- all stamps come before the end of stamps
 abbrev pub InTime : List Packet → Type 0
 InTime ps = (i : ℕ) (p : Packet) → slice_get ps i ≡ Some p → p.stamp < STAMP_END
 
--- and so is each of packets decoded one by one, and each state between them fits
-abbrev pub SerialFits : Type 0
-SerialFits = (db : Database) (s : Session) (ps : List Packet) (k : ℕ) → IsChecked db → session_fits db s ≡ true → InTime ps → (session_fits db (state db s ps k) ≡ true) × DecodesFitting db (decoded_at db s ps k)
+-- the same of packets decoded one by one
+pub record SerialFits : Type 0 where
+  pub log : (db : Database) (s : Session) (ps : List Packet) (k : ℕ) → IsChecked db → log_fits db (decoded_at db s ps k).log ≡ true
+  pub most : (db : Database) (s : Session) (ps : List Packet) (k : ℕ) → IsChecked db → length (decoded_at db s ps k).log ≤ MOST_QUESTIONS
+  pub session : (db : Database) (s : Session) (ps : List Packet) (k : ℕ) → IsChecked db → InTime ps → session_fits db s ≡ true → session_fits db (state db s ps k) ≡ true
 
 -- the value of a typed expression has its type, whatever answers that fit it gets, from a state that fits; and the state after it fits
 abbrev pub TypedValues : Type 0
