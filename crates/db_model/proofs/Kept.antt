@@ -50,15 +50,15 @@ abbrev Apart : List Entry → Type 0
 Apart [] = Unit {0}
 Apart (e ∷ es) = NoneLike e es × Apart es
 
-or_first : (a b : Bool) → (a || b) ≡ false → a ≡ false
+pub or_first : (a b : Bool) → (a || b) ≡ false → a ≡ false
 or_first true b h = h
 or_first false b h = refl
 
-or_second : (a b : Bool) → (a || b) ≡ false → b ≡ false
+pub or_second : (a b : Bool) → (a || b) ≡ false → b ≡ false
 or_second true b h = (cc)
 or_second false b h = h
 
-or_none : (a b : Bool) → a ≡ false → b ≡ false → (a || b) ≡ false
+pub or_none : (a b : Bool) → a ≡ false → b ≡ false → (a || b) ≡ false
 or_none true b h k = h
 or_none false b h k = k
 
@@ -130,11 +130,11 @@ min_is s r = elim (cases_lt s r) [ inl h ↦ inl (omega arith) | inr h ↦ inr (
 equal_so : (s t : ℕ) → s ≡ t → (s == t) ≡ true
 equal_so s t h = (Decides-eqb s t).1 h
 
-or_left : (a b : Bool) → a ≡ true → (a || b) ≡ true
+pub or_left : (a b : Bool) → a ≡ true → (a || b) ≡ true
 or_left true b k = refl
 or_left false b k = (cc)
 
-or_right : (a b : Bool) → b ≡ true → (a || b) ≡ true
+pub or_right : (a b : Bool) → b ≡ true → (a || b) ≡ true
 or_right true b k = refl
 or_right false b k = k
 

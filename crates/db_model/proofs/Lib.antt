@@ -7,6 +7,7 @@ pub mod LawsHold
 pub mod BareDb
 pub mod Accepted
 pub mod Includes
+pub mod Cycles
 pub mod Layers
 pub mod Fitted
 pub mod Proper

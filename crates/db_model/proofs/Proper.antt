@@ -109,7 +109,7 @@ module _ (db : Database) where
   keys_evaluate P (size ∷ sizes) (p ∷ ps) before h g =
       eval_then Any P p (λ v. result (when (length (buf v) == size) reason.KeySize (buf v)) >>= (λ k. keys_from (before ++ k ∷ []) sizes ps)) h.0
       (λ v u. eval_then (HasSize size) P (result (when (length (buf v) == size) reason.KeySize (buf v))) (λ k. keys_from (before ++ k ∷ []) sizes ps) (sized v (length (buf v) == size) refl)
-          (λ k f. keys_evaluate P sizes ps (before ++ k ∷ []) h.1 (λ more m. subst P (sym (append_assoc before (k ∷ []) more)) (g (k ∷ more) (and_both (length k == size) (keys_fit sizes more) f m)))))
+      (λ k f. keys_evaluate P sizes ps (before ++ k ∷ []) h.1 (λ more m. subst P (sym (append_assoc before (k ∷ []) more)) (g (k ∷ more) (and_both (length k == size) (keys_fit sizes more) f m)))))
     where
       sized : (v : Value) (b : Bool) → (length (buf v) == size) ≡ b → Evaluates (HasSize size) (result (when b reason.KeySize (buf v)))
       sized v true e z = (refl, e)

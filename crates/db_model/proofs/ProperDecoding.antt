@@ -111,17 +111,19 @@ module _ (db : Database) (o : 0 < length db.protocols) where
     body_at at name (b ∷ bs) h k = by (bytes_eq name b.name) (body_at (plus (plus at a_block) (counts_in b.body)) name bs (append_back (body_lines b) (over body_lines bs) h) (and_second (block_is_shaped b) (list_all block_is_shaped bs) k))
       where
         by : (c : Bool) → InBody (block_from (plus (plus at a_block) (counts_in b.body)) name bs) → InBody (if c then Some (record { before = at; body = b.body }) else block_from (plus (plus at a_block) (counts_in b.body)) name bs)
-        by true ih =
-            (append_front (body_lines b) (over body_lines bs) h,
-            stand_list FieldList b.body (and_second (if_there is_text b.longname) (is_list FieldList b.body) (and_second (is_name b.name) (if_there is_text b.longname && is_list FieldList b.body) (and_first (block_is_shaped b) (list_all block_is_shaped bs) k))))
+        by true ih = (
+          append_front (body_lines b) (over body_lines bs) h,
+          stand_list FieldList b.body (and_second (if_there is_text b.longname) (is_list FieldList b.body) (and_second (is_name b.name) (if_there is_text b.longname && is_list FieldList b.body) (and_first (block_is_shaped b) (list_all block_is_shaped bs) k))),
+        )
         by false ih = ih
 
     module _ (include : Text → Run) (inc : (name : Text) → IsProper db (include name)) where
       list_parts : (xs : List Element) → lines xs ≡ [] → AllStand xs → AllParts db (parts db (field_names p) include xs)
       list_parts [] h k = tt
-      list_parts (x ∷ xs) h k =
-          (element_proper db (field_names p) include inc o x k.0.0 k.0.1 (append_front (lines_of (own_47 db) x) (lines xs) h) k.0.2,
-          list_parts xs (append_back (lines_of (own_47 db) x) (lines xs) h) k.1)
+      list_parts (x ∷ xs) h k = (
+        element_proper db (field_names p) include inc o x k.0.0 k.0.1 (append_front (lines_of (own_47 db) x) (lines xs) h) k.0.2,
+        list_parts xs (append_back (lines_of (own_47 db) x) (lines xs) h) k.1,
+      )
 
       block_proper : (b : Option BlockAt) → InBody b → IsProper db (block_of db p include b)
       block_proper None h = proper_leave db Next

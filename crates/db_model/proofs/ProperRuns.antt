@@ -170,8 +170,8 @@ module _ (db : Database) where
   row_evaluates o P (c ∷ cs) (p ∷ ps) before h g =
       eval_then db Any P p (λ v. result (when (fits_column c.size (taken v)) reason.DataSize (taken v)) >>= rest) h.0
       (λ v u. eval_then db (Taken c) P (result (when (fits_column c.size (taken v)) reason.DataSize (taken v))) rest (sized v (fits_column c.size (taken v)) refl)
-          (λ w f. row_evaluates o P cs ps (before ++ w ∷ []) h.1 (λ more m. subst P (sym (append_assoc before (w ∷ []) more))
-              (g (w ∷ more) (and_both (is_of_type c.ty w && fits_column c.size w) (row_fits cs more) f.0 m.0, and_both (is_declared db w) (row_declared db more) f.1 m.1)))))
+      (λ w f. row_evaluates o P cs ps (before ++ w ∷ []) h.1 (λ more m. subst P (sym (append_assoc before (w ∷ []) more))
+      (g (w ∷ more) (and_both (is_of_type c.ty w && fits_column c.size w) (row_fits cs more) f.0 m.0, and_both (is_declared db w) (row_declared db more) f.1 m.1)))))
     where
       taken : Value → Value
       taken v = taken_as (length db.protocols) c.ty v
@@ -239,8 +239,8 @@ module _ (db : Database) where
         eval_then db (λ ks. keys_fit sizes ks ≡ true) Any (keys_from [] sizes (map (λ k. val db fields k.value) keys)) _
         (keys_evaluate db (λ ks. keys_fit sizes ks ≡ true) sizes (map (λ k. val db fields k.value) keys) [] (keys_all keys) (λ more m. m))
         (λ ks k. eval_then db (RowIs d.columns) Any (row_from (length db.protocols) [] d.columns (map (λ v. val db fields v.value) row)) _
-            (row_evaluates o (RowIs d.columns) d.columns (map (λ v. val db fields v.value) row) [] (row_all row) (λ more m. m))
-            (λ vs v. asked db (Add n (entry ks vs)) (subst (λ x. add_fits_in db x (entry ks vs) ≡ true) (sym e) (fit ks vs k masks v.0 v.1))))
+        (row_evaluates o (RowIs d.columns) d.columns (map (λ v. val db fields v.value) row) [] (row_all row) (λ more m. m))
+        (λ vs v. asked db (Add n (entry ks vs)) (subst (λ x. add_fits_in db x (entry ks vs) ≡ true) (sym e) (fit ks vs k masks v.0 v.1))))
       where
         entry : KeyList → List Value → NewEntry
         entry ks vs = record { keys = ks; masks = masks_of (key_sizes (Some d)) (map (λ k. k.mask) keys); validity = validity; keep = unwrap_or keep 0; hit = unwrap_or hit 0; row = vs }
@@ -357,15 +357,17 @@ module _ (db : Database) where
 
       row_proper : {m : _} (xs : Row_of-Element m) (kind : ListKind) (looped : Bool) → lines_row xs ≡ [] → all_stand (fold_row Stands stands_step xs) kind looped ≡ true → AllParts (noted_row Counts counts_of (Counts → Run) (does db fields include) xs)
       row_proper end_of-Element kind looped h k = tt
-      row_proper (more_of-Element x rest) kind looped h k =
-          (element_proper x kind looped (append_front (lines_of (own_47 db) x) (lines_row rest) h) (and_first (stands x kind looped) (all_stand (fold_row Stands stands_step rest) kind looped) k),
-          row_proper rest kind looped (append_back (lines_of (own_47 db) x) (lines_row rest) h) (and_second (stands x kind looped) (all_stand (fold_row Stands stands_step rest) kind looped) k))
+      row_proper (more_of-Element x rest) kind looped h k = (
+        element_proper x kind looped (append_front (lines_of (own_47 db) x) (lines_row rest) h) (and_first (stands x kind looped) (all_stand (fold_row Stands stands_step rest) kind looped) k),
+        row_proper rest kind looped (append_back (lines_of (own_47 db) x) (lines_row rest) h) (and_second (stands x kind looped) (all_stand (fold_row Stands stands_step rest) kind looped) k),
+      )
 
       cases_proper : {m : _} (xs : Row_of-Case m) (kind : ListKind) (looped : Bool) → lines_cases xs ≡ [] → cases_stand (fold_cases Stands stands_step xs) kind looped ≡ true → AllCases (noted_cases Counts counts_of (Counts → Run) (does db fields include) xs)
       cases_proper end_of-Case kind looped h k = tt
-      cases_proper (more_of-Case line value maxvalue s body rest) kind looped h k =
-          (row_proper body kind looped (append_front (lines_row body) (lines_cases rest) h) (and_first (all_stand (fold_row Stands stands_step body) kind looped) (cases_stand (fold_cases Stands stands_step rest) kind looped) k),
-          cases_proper rest kind looped (append_back (lines_row body) (lines_cases rest) h) (and_second (all_stand (fold_row Stands stands_step body) kind looped) (cases_stand (fold_cases Stands stands_step rest) kind looped) k))
+      cases_proper (more_of-Case line value maxvalue s body rest) kind looped h k = (
+        row_proper body kind looped (append_front (lines_row body) (lines_cases rest) h) (and_first (all_stand (fold_row Stands stands_step body) kind looped) (cases_stand (fold_cases Stands stands_step rest) kind looped) k),
+        cases_proper rest kind looped (append_back (lines_row body) (lines_cases rest) h) (and_second (all_stand (fold_row Stands stands_step body) kind looped) (cases_stand (fold_cases Stands stands_step rest) kind looped) k),
+      )
 
       held_proper : (x : Held-Element-Switch-3) (kind : ListKind) (looped : Bool) → lines_held x ≡ [] → branch_stands (fold_held Stands stands_step x) kind looped ≡ true → InBranch (noted_held Counts counts_of (Counts → Run) (does db fields include) x)
       held_proper None' kind looped h k = tt

@@ -127,8 +127,8 @@ module _ (db : Database) where
   fit_keys (size ∷ sizes) (p ∷ ps) before h z k =
       fit_any Some_value p (λ v. result (when (length (buf v) == size) reason.KeySize (buf v)) >>= (λ w. keys_from (before ++ w ∷ []) sizes ps)) h.0
       (λ v. fit_any Some_value (result (when (length (buf v) == size) reason.KeySize (buf v))) (λ w. keys_from (before ++ w ∷ []) sizes ps)
-          (fit_result Some_value (when (length (buf v) == size) reason.KeySize (buf v)) (no_value (when (length (buf v) == size) reason.KeySize (buf v))))
-          (λ w. fit_keys sizes ps (before ++ w ∷ []) h.1)) z k
+      (fit_result Some_value (when (length (buf v) == size) reason.KeySize (buf v)) (no_value (when (length (buf v) == size) reason.KeySize (buf v))))
+      (λ w. fit_keys sizes ps (before ++ w ∷ []) h.1)) z k
 
   abbrev Answered : Question → Answer → Type 0
   Answered q a = answer_fits db (slice_get db.tables (table_of q)) a ≡ true

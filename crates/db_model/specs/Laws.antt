@@ -1,6 +1,7 @@
 -- The laws of the definitions, each in the words of its subject.
-use Rattle.std.specs.Prelude.{◌≡◌, ℕ, suc, Bool, true, ◌+◌, ◌<◌, ◌≤◌, List, [], ◌∷◌, ◌++◌, length, drop, slice_get, ◌↔◌, Some, None, Ok}
+use Rattle.std.specs.Prelude.{◌≡◌, ℕ, Bool, true, ◌+◌, ◌<◌, ◌≤◌, List, [], ◌∷◌, ◌++◌, length, drop, slice_get, ◌↔◌, Some, None, Ok}
 use Rattle.db_model.specs.declared.database.Database.{Database}
+use Rattle.db_model.specs.declared.database.NamedBlock.{NamedBlock}
 use Rattle.db_model.specs.declared.database.Protocol.{Protocol}
 use Rattle.db_model.specs.declared.database.TableDecl.{TableDecl}
 use Rattle.db_model.specs.declared.entry.Entry.{Entry}
@@ -12,16 +13,17 @@ use Rattle.db_model.specs.declared.packet.Packet.{Packet}
 use Rattle.db_model.specs.declared.question.Question.{Question}
 use Rattle.db_model.specs.declared.value.Ty.{Ty}
 use Rattle.db_model.specs.declared.value.Value.{Value}
+use Rattle.db_model.specs.BlockFaults.{firsts, includes_itself, Reaches, protocol_45}
 use Rattle.db_model.specs.Chain.{elements_of, chain}
 use Rattle.db_model.specs.Decoding.{decoding, dec}
-use Rattle.db_model.specs.Elements.{list_within, list}
+use Rattle.db_model.specs.Elements.{block_of, included, list}
 use Rattle.db_model.specs.Expression.{val, taken_as}
 use Rattle.db_model.specs.Fitting.{look_fits, add_fits, question_fits, log_fits, table_fits, session_fits, has_type, hit_fits, answer_fits, table_of}
 use Rattle.db_model.specs.Kept.{Kept, made_by_put}
+use Rattle.db_model.specs.Names.{Text}
+use Rattle.db_model.specs.Numbering.{Counts, block_at, blocks_in}
 use Rattle.db_model.specs.Objection.{IsChecked}
 use Rattle.db_model.specs.Questions.{Asks, Gives, Asking, and_then, Log, play, Step, pure, ◌then◌, State, from}
-use Rattle.db_model.specs.Names.{Text}
-use Rattle.db_model.specs.Numbering.{Counts}
 use Rattle.db_model.specs.Proper.{Proper, Leaves, TakesFrom, Any, AnyEnd, left_in, left_in_frame, PlaysProper}
 use Rattle.db_model.specs.Replay.{after, Agrees, differs}
 use Rattle.db_model.specs.Serial.{state, decoded_at}
@@ -59,9 +61,15 @@ SerialFrom = (db : Database) (s : Session) (ps : List Packet) (m k : ℕ) → (s
 abbrev pub SerialFront : Type 0
 SerialFront = (db : Database) (s : Session) (ps qs : List Packet) (k : ℕ) → k ≤ length ps → state db s (ps ++ qs) k ≡ state db s ps k
 
--- the levels of included blocks are enough: in a checked database one more changes nothing
-abbrev pub IncludesEnd : Type 0
-IncludesEnd = (db : Database) (q : ℕ) (p : Protocol) → IsChecked db → slice_get db.protocols q ≡ Some p → list_within db p MOST_NESTED (elements_of p) ≡ list_within db p (suc MOST_NESTED) (elements_of p)
+-- the levels of included blocks are enough: in a checked database a name means the block of that name in which each name means the same, however deep it stands, and more levels mean nothing else. So each named block may be compiled by itself, and an include be a jump to it
+pub record IncludesEnd : Type 0 where
+  pub is_block : (db : Database) (q : ℕ) (p : Protocol) (name : Text) → IsChecked db → slice_get db.protocols q ≡ Some p → included db p MOST_NESTED name ≡ block_of db p (included db p MOST_NESTED) (block_at p name)
+  pub more_levels : (db : Database) (q : ℕ) (p : Protocol) (name : Text) (n : ℕ) → IsChecked db → slice_get db.protocols q ≡ Some p → MOST_NESTED ≤ n → included db p n name ≡ included db p MOST_NESTED name
+
+-- the bounded walk of fault 45 finds every cycle: the first block of a name includes itself exactly where the name leads back to itself, through however many blocks, and a protocol is without the fault exactly where none does
+pub record CyclesFound : Type 0 where
+  pub of_block : (p : Protocol) (k : ℕ) (b : NamedBlock) → slice_get (firsts [] (blocks_in p.format)) k ≡ Some b → (includes_itself p b ≡ true) ↔ Reaches p b.name b.name
+  pub of_protocol : (p : Protocol) → (protocol_45 p ≡ []) ↔ ((name : Text) → Reaches p name name → ⊥)
 
 -- in a table to which entries were only put, no two of a part have the same keys and masks, and the declared lengths hold
 abbrev pub PutKeeps : Type 0

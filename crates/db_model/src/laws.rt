@@ -1,6 +1,6 @@
 //! The laws of the definitions, each the contract of a function that does nothing.
 
-ghost use Rattle.db_model.specs.Laws.{UnchangedDecoding, UnchangedComputation, DiffersNowhere, AgreesInParts, SessionOfDecoding, SerialFrom, SerialFront, IncludesEnd, PutKeeps, TableKeeps, TableFits, FitsStay, DeclaredFits, AsksProperly, ProperComputations, AfterFits, DecodingFits, SerialFits, TypedValues, TakenAsItself, CarriesState};
+ghost use Rattle.db_model.specs.Laws.{UnchangedDecoding, UnchangedComputation, DiffersNowhere, AgreesInParts, SessionOfDecoding, SerialFrom, SerialFront, IncludesEnd, CyclesFound, PutKeeps, TableKeeps, TableFits, FitsStay, DeclaredFits, AsksProperly, ProperComputations, AfterFits, DecodingFits, SerialFits, TypedValues, TakenAsItself, CarriesState};
 
 /// Where the log of a decoding agrees with another session, decoding from there gives the same tree and log.
 pub fn unchanged_decoding()
@@ -37,9 +37,15 @@ pub fn serial_front()
     ensures { SerialFront }
 {}
 
-/// In a checked database one more level of included blocks changes nothing.
+/// In a checked database a name means the block of that name, at whatever depth it is included: the levels that
+/// there are never end, and more of them change nothing.
 pub fn includes_end()
     ensures { IncludesEnd }
+{}
+
+/// Fault 45 stands exactly where a named block leads back to itself, through however many others.
+pub fn cycles_found()
+    ensures { CyclesFound }
 {}
 
 /// Putting entries keeps their keys and masks apart, and the declared lengths.
