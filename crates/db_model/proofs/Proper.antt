@@ -43,13 +43,13 @@ proper_parts db Q f n (Gives a) h = h
 proper_parts db Q f zero (Asking q k) h = h
 proper_parts db Q f (suc n) (Asking q k) h = (h.0, λ a. proper_parts db Q f n (k a) (h.1 a))
 
-pub proper_plays : {A : Type 0} (db : Database) (P : A → ℕ → Type 0) (t : ℕ) → t < STAMP_END → (n : ℕ) (x : Asks A) (s : Session) → Proper db P n x → session_fits db s ≡ true → PlaysProper db P n (play db t x s)
-proper_plays db P t l n (Gives a) s h k = record { left = n; gave = h; taken = omega arith; log = refl; session = k }
-proper_plays db P t l zero (Asking q k) s h g = absurd h
-proper_plays db P t l (suc n) (Asking q k) s h g =
+pub proper_plays : {A : Type 0} (db : Database) (P : A → ℕ → Type 0) (t n : ℕ) (x : Asks A) (s : Session) → Proper db P n x → PlaysProper db P n (play db t x s)
+proper_plays db P t n (Gives a) s h = record { left = n; gave = h; taken = omega arith; log = refl }
+proper_plays db P t zero (Asking q k) s h = absurd h
+proper_plays db P t (suc n) (Asking q k) s h =
     let a = (ask db s q t).0 in
-    let r = proper_plays db P t l n (k a) (ask db s q t).1 (h.1 a) (fits_stay db s q t g h.0 l).1 in
-    record { left = r.left; gave = r.gave; taken = omega (arith, r.taken); log = and_both (question_fits db q) (log_fits db (play db t (k a) (ask db s q t).1).log) h.0 r.log; session = r.session }
+    let r = proper_plays db P t n (k a) (ask db s q t).1 (h.1 a) in
+    record { left = r.left; gave = r.gave; taken = omega (arith, r.taken); log = and_both (question_fits db q) (log_fits db (play db t (k a) (ask db s q t).1).log) h.0 r.log }
 
 module _ {S A B : Type 0} (db : Database) (left : S → ℕ) (P : A → Type 0) (Q : B → Type 0) where
   pub step_then : (p : Step S A) (f : A → Step S B) → TakesFrom db left P p → ((a : A) → P a → TakesFrom db left Q (f a)) → TakesFrom db left Q (p then f)

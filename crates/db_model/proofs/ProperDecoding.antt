@@ -1,6 +1,6 @@
 -- The decoding of a packet asks properly in a checked database, and leaves a session that fits.
 use Rattle.std.specs.Prelude.{◌≡◌, ℕ, zero, suc, ◌<◌, ◌≤◌, Bool, true, false, not, ◌&&◌, if◌then◌else◌, List, [], ◌∷◌, ◌++◌, map, length, slice_get, bytes_eq, Option, Some, None}
-use Rattle.std.proofs.Common.{refl, subst, arith}
+use Rattle.std.proofs.Common.{refl, ap, subst, ◌∙◌, arith}
 use Rattle.std.specs.List.{list_any, list_all}
 use Rattle.db_model.specs.declared.database.Database.{Database}
 use Rattle.db_model.specs.declared.database.ElementList.{ElementList}
@@ -23,7 +23,7 @@ use Rattle.db_model.specs.Decoding.{start, payload, decoding, dec}
 use Rattle.db_model.specs.Elements.{Part, each, parts, block_of, included, list_within, list}
 use Rattle.db_model.specs.Fitting.{session_fits, log_fits}
 use Rattle.db_model.specs.Forms.{if_there, is_text}
-use Rattle.db_model.specs.Laws.{DecodesFitting, InTime}
+use Rattle.db_model.specs.Laws.{InTime}
 use Rattle.db_model.specs.Lines.{Lines, over, at_line, lines_of, lines_in}
 use Rattle.db_model.specs.Name.{is_name}
 use Rattle.db_model.specs.NameFaults.{fault_41, literal_is_unknown, item_41, protocol_41}
@@ -33,13 +33,14 @@ use Rattle.db_model.specs.Objection.{IsChecked}
 use Rattle.db_model.specs.Proper.{Proper, Leaves, TakesFrom, Any, AnyEnd, left_in_frame, PlaysProper}
 use Rattle.db_model.specs.Questions.{Gives, and_then, Step, play}
 use Rattle.db_model.specs.Runs.{Run, next}
-use Rattle.db_model.specs.Serial.{decoded, state, decoded_at}
+use Rattle.db_model.specs.Serial.{decoded, state}
 use Rattle.db_model.specs.Session.{Session}
 use Rattle.db_model.specs.Shape.{ListKind, FieldList, CodeList, EncapList, stands, is_list, is_list_of, code_is_shaped, block_is_shaped, format_is_shaped, protocol_is_shaped, is_shaped, texts_are_shaped, variable_is_shaped, table_is_shaped, template_is_shaped, sections_are_shaped, sum_is_shaped}
 use Rattle.db_model.specs.TypeFaults.{own_47, fault_47}
 use Rattle.db_model.specs.Typing.{is_among, is_protocol}
 use Rattle.db_model.proofs.Accepted.{append_front, append_back, no_faults}
-use Rattle.db_model.proofs.Fitted.{and_first, and_second}
+use Rattle.db_model.proofs.Fitted.{and_first, and_second, after_fits}
+use Rattle.db_model.proofs.Play.{session_after}
 use Rattle.db_model.proofs.Proper.{proper_then, proper_plays}
 use Rattle.db_model.proofs.ProperRuns.{IsProper, proper_leave, proper_block, AllParts, each_proper, line_false, element_proper}
 
@@ -221,19 +222,34 @@ module _ (db : Database) (c : IsChecked db) where
       proper_then db (Leaves left_in_frame Any) AnyEnd (λ r. Gives (r.0 ++ payload r.1)) (λ r m k. tt)
       MOST_QUESTIONS (chain db MOST_ENTERED (protocol_at db startproto) (start db p)) (chain_proper MOST_ENTERED (protocol_at db startproto) (start db p))
 
-  pub decodes_fitting : (p : Packet) (s : Session) → p.stamp < STAMP_END → session_fits db s ≡ true → DecodesFitting db (dec db p s)
+  plays : (p : Packet) (s : Session) → PlaysProper db AnyEnd MOST_QUESTIONS (dec db p s)
   unfolding dec
-  decodes_fitting p s l h =
-      let r = proper_plays db AnyEnd p.stamp l MOST_QUESTIONS (decoding db p) s (decoding_proper p) h in
-      record { log = r.log; session = r.session; most = omega (arith, r.taken) }
+  plays p s = proper_plays db AnyEnd p.stamp MOST_QUESTIONS (decoding db p) s (decoding_proper p)
 
-  decoded_fitting : (o : Option Packet) (s : Session) → ((p : Packet) → o ≡ Some p → p.stamp < STAMP_END) → session_fits db s ≡ true → DecodesFitting db (decoded db o s)
-  decoded_fitting None s l h = record { log = refl; session = h; most = omega arith }
-  decoded_fitting (Some p) s l h = decodes_fitting p s (l p refl) h
+  pub log_of_decoding : (p : Packet) (s : Session) → log_fits db (dec db p s).log ≡ true
+  log_of_decoding p s = (plays p s).log
 
-  pub state_fits : (s : Session) (ps : List Packet) → session_fits db s ≡ true → InTime ps → (k : ℕ) → session_fits db (state db s ps k) ≡ true
-  state_fits s ps h l zero = h
-  state_fits s ps h l (suc k) = (decoded_fitting (slice_get ps k) (state db s ps k) (l k) (state_fits s ps h l k)).session
+  pub most_of_decoding : (p : Packet) (s : Session) → length (dec db p s).log ≤ MOST_QUESTIONS
+  most_of_decoding p s = omega (arith, (plays p s).taken)
 
-  pub serial_fitting : (s : Session) (ps : List Packet) → session_fits db s ≡ true → InTime ps → (k : ℕ) → DecodesFitting db (decoded_at db s ps k)
-  serial_fitting s ps h l k = decoded_fitting (slice_get ps k) (state db s ps k) (l k) (state_fits s ps h l k)
+  pub session_of_decoding : (p : Packet) (s : Session) → p.stamp < STAMP_END → session_fits db s ≡ true → session_fits db (dec db p s).session ≡ true
+  unfolding dec
+  session_of_decoding p s l h = ap (session_fits db) (session_after db p.stamp (decoding db p) s) ∙ after_fits db p.stamp (play db p.stamp (decoding db p) s).log s h (log_of_decoding p s) l
+
+  -- ---- packets one by one
+
+  pub log_of : (o : Option Packet) (s : Session) → log_fits db (decoded db o s).log ≡ true
+  log_of None s = refl
+  log_of (Some p) s = log_of_decoding p s
+
+  pub most_of : (o : Option Packet) (s : Session) → length (decoded db o s).log ≤ MOST_QUESTIONS
+  most_of None s = omega arith
+  most_of (Some p) s = most_of_decoding p s
+
+  session_of : (o : Option Packet) (s : Session) → ((p : Packet) → o ≡ Some p → p.stamp < STAMP_END) → session_fits db s ≡ true → session_fits db (decoded db o s).session ≡ true
+  session_of None s l h = h
+  session_of (Some p) s l h = session_of_decoding p s (l p refl) h
+
+  pub state_fits : (s : Session) (ps : List Packet) → InTime ps → session_fits db s ≡ true → (k : ℕ) → session_fits db (state db s ps k) ≡ true
+  state_fits s ps l h zero = h
+  state_fits s ps l h (suc k) = session_of (slice_get ps k) (state db s ps k) (l k) (state_fits s ps l h k)

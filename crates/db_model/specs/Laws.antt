@@ -11,7 +11,6 @@ use Rattle.db_model.specs.declared.expression.Expr.{Expr}
 use Rattle.db_model.specs.declared.limits.TheConstants.{MOST_NESTED, MOST_QUESTIONS, STAMP_END}
 use Rattle.db_model.specs.declared.packet.Packet.{Packet}
 use Rattle.db_model.specs.declared.question.Question.{Question}
-use Rattle.db_model.specs.declared.tree.Proto.{Proto}
 use Rattle.db_model.specs.declared.value.Ty.{Ty}
 use Rattle.db_model.specs.declared.value.Value.{Value}
 use Rattle.db_model.specs.BlockFaults.{firsts, includes_itself, Reaches, protocol_45}
@@ -24,7 +23,7 @@ use Rattle.db_model.specs.Kept.{Kept, made_by_put}
 use Rattle.db_model.specs.Names.{Text}
 use Rattle.db_model.specs.Numbering.{Counts, block_at, blocks_in}
 use Rattle.db_model.specs.Objection.{IsChecked}
-use Rattle.db_model.specs.Questions.{Asks, Gives, Asking, and_then, Log, Played, play, Step, pure, ◌then◌, State, from}
+use Rattle.db_model.specs.Questions.{Asks, Gives, Asking, and_then, Log, play, Step, pure, ◌then◌, State, from}
 use Rattle.db_model.specs.Proper.{Proper, Leaves, TakesFrom, Any, AnyEnd, left_in, left_in_frame, PlaysProper}
 use Rattle.db_model.specs.Replay.{after, Agrees, differs}
 use Rattle.db_model.specs.Serial.{state, decoded_at}
@@ -101,33 +100,31 @@ pub record AsksProperly : Type 0 where
   pub list : (db : Database) (q : ℕ) (p : Protocol) (at : Counts) → IsChecked db → slice_get db.protocols q ≡ Some p → TakesFrom db left_in_frame Any (list db p (elements_of p) at)
   pub expression : (db : Database) (fields : List Text) (e : Expr) → TakesFrom db left_in Any (val db fields e)
 
--- one computation after another asks properly exactly where the first does, and then the second from what is left. And what is played of them over a session that fits: the first, where the second follows, and a step
+-- one computation after another asks properly exactly where the first does, and then the second from what is left. And what is played of them over any session: the first, where the second follows, and a step
 pub record ProperComputations (S A B : Type 0) : Type 0 where
   pub one_after_another : (db : Database) (n : ℕ) (x : Asks A) (f : A → Asks B) → Proper db AnyEnd n (and_then x f) ↔ Proper db (λ a m. Proper db AnyEnd m (f a)) n x
-  pub first : (db : Database) (n t : ℕ) (x : Asks A) (f : A → Asks B) (s : Session) → t < STAMP_END → Proper db AnyEnd n (and_then x f) → session_fits db s ≡ true → PlaysProper db (λ a m. Proper db AnyEnd m (f a)) n (play db t x s)
-  pub step : (db : Database) (left : S → ℕ) (n t : ℕ) (x : Asks (A × S)) (s : Session) → t < STAMP_END → Proper db (Leaves left Any) n x → session_fits db s ≡ true → PlaysProper db (Leaves left Any) n (play db t x s)
+  pub first : (db : Database) (n t : ℕ) (x : Asks A) (f : A → Asks B) (s : Session) → Proper db AnyEnd n (and_then x f) → PlaysProper db (λ a m. Proper db AnyEnd m (f a)) n (play db t x s)
+  pub step : (db : Database) (left : S → ℕ) (n t : ℕ) (x : Asks (A × S)) (s : Session) → Proper db (Leaves left Any) n x → PlaysProper db (Leaves left Any) n (play db t x s)
 
 -- a log of questions that fit leaves a session that fits
 abbrev pub AfterFits : Type 0
 AfterFits = (db : Database) (t : ℕ) (l : Log) (s : Session) → session_fits db s ≡ true → log_fits db l ≡ true → t < STAMP_END → session_fits db (after db t l s) ≡ true
 
--- a decoding whose questions fit and are at most as many as a packet may ask, and that leaves a session that fits
-pub record DecodesFitting (db : Database) (d : Played (List Proto)) : Type 0 where
-  pub log : log_fits db d.log ≡ true
-  pub session : session_fits db d.session ≡ true
-  pub most : length d.log ≤ MOST_QUESTIONS
-
--- from a session that fits each decoding in a checked database is such a one
-abbrev pub DecodingFits : Type 0
-DecodingFits = (db : Database) (p : Packet) (s : Session) → IsChecked db → p.stamp < STAMP_END → session_fits db s ≡ true → DecodesFitting db (dec db p s)
+-- in a checked database each question of a decoding fits and there are at most as many as a packet may ask; and from a session that fits, at a stamp, it leaves one that fits
+pub record DecodingFits : Type 0 where
+  pub log : (db : Database) (p : Packet) (s : Session) → IsChecked db → log_fits db (dec db p s).log ≡ true
+  pub most : (db : Database) (p : Packet) (s : Session) → IsChecked db → length (dec db p s).log ≤ MOST_QUESTIONS
+  pub session : (db : Database) (p : Packet) (s : Session) → IsChecked db → p.stamp < STAMP_END → session_fits db s ≡ true → session_fits db (dec db p s).session ≡ true
 
 -- all stamps come before the end of stamps
 abbrev pub InTime : List Packet → Type 0
 InTime ps = (i : ℕ) (p : Packet) → slice_get ps i ≡ Some p → p.stamp < STAMP_END
 
--- and so is each of packets decoded one by one, and each state between them fits
-abbrev pub SerialFits : Type 0
-SerialFits = (db : Database) (s : Session) (ps : List Packet) (k : ℕ) → IsChecked db → session_fits db s ≡ true → InTime ps → (session_fits db (state db s ps k) ≡ true) × DecodesFitting db (decoded_at db s ps k)
+-- the same of packets decoded one by one
+pub record SerialFits : Type 0 where
+  pub log : (db : Database) (s : Session) (ps : List Packet) (k : ℕ) → IsChecked db → log_fits db (decoded_at db s ps k).log ≡ true
+  pub most : (db : Database) (s : Session) (ps : List Packet) (k : ℕ) → IsChecked db → length (decoded_at db s ps k).log ≤ MOST_QUESTIONS
+  pub session : (db : Database) (s : Session) (ps : List Packet) (k : ℕ) → IsChecked db → InTime ps → session_fits db s ≡ true → session_fits db (state db s ps k) ≡ true
 
 -- the value of a typed expression has its type, whatever answers that fit it gets, from a state that fits; and the state after it fits
 abbrev pub TypedValues : Type 0

@@ -4,7 +4,7 @@ use Rattle.db_model.specs.declared.database.Database.{Database}
 use Rattle.db_model.specs.declared.env.Env.{Env}
 use Rattle.db_model.specs.declared.env.Frame.{Frame}
 use Rattle.db_model.specs.declared.question.Answer.{Answer}
-use Rattle.db_model.specs.Fitting.{question_fits, session_fits, log_fits}
+use Rattle.db_model.specs.Fitting.{question_fits, log_fits}
 use Rattle.db_model.specs.Questions.{Asks, Gives, Asking, Played, Step}
 
 -- on each way each question fits and takes one of n, and P holds of the result and of how many are left then
@@ -35,10 +35,9 @@ left_in z = z.questions
 abbrev pub left_in_frame : Frame → ℕ
 left_in_frame z = z.env.questions
 
--- what such a computation gives over a session that fits: P holds of the result and of how many questions are left, each question that was asked fits, and so does the session after it
+-- what such a computation gives over any session: P holds of the result and of how many questions are left, and each question that was asked fits
 pub record PlaysProper {A : Type 0} (db : Database) (P : A → ℕ → Type 0) (n : ℕ) (p : Played A) : Type 0 where
   pub left : ℕ
   pub gave : P p.result left
   pub taken : left + length p.log ≡ n
   pub log : log_fits db p.log ≡ true
-  pub session : session_fits db p.session ≡ true

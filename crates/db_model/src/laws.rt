@@ -78,7 +78,7 @@ pub fn asks_properly()
     ensures { AsksProperly }
 {}
 
-/// How computations that ask properly are put together, and what they give over a session that fits.
+/// How computations that ask properly are put together, and what they give over a session.
 pub fn proper_computations<S, A, B>()
     ensures { ProperComputations S A B }
 {}
@@ -88,12 +88,12 @@ pub fn after_fits()
     ensures { AfterFits }
 {}
 
-/// A decoding from a session that fits asks questions that fit, and leaves a session that fits.
+/// A decoding asks questions that fit, and at most as many as it may, and leaves a session that fits.
 pub fn decoding_fits()
     ensures { DecodingFits }
 {}
 
-/// Packets decoded one by one from a session that fits leave sessions that fit.
+/// The same of packets decoded one by one.
 pub fn serial_fits()
     ensures { SerialFits }
 {}

@@ -1,5 +1,11 @@
-use Rattle.db_model.proofs.ProperDecoding.{state_fits, serial_fitting}
+use Rattle.std.specs.Prelude.{slice_get}
+use Rattle.db_model.specs.Serial.{state}
+use Rattle.db_model.proofs.ProperDecoding.{log_of, most_of, state_fits}
 use Rattle.db_model.proofs.laws.serial_fits.Goals as goal
 
 pub returns : goal.returns
-returns c = λ db s ps k h f l. (state_fits db h s ps f l k, serial_fitting db h s ps f l k)
+returns c = record {
+  log = λ db s ps k h. log_of db h (slice_get ps k) (state db s ps k);
+  most = λ db s ps k h. most_of db h (slice_get ps k) (state db s ps k);
+  session = λ db s ps k h l f. state_fits db h s ps l f k;
+}
