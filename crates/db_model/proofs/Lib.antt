@@ -9,3 +9,5 @@ pub mod Accepted
 pub mod Includes
 pub mod Layers
 pub mod Fitted
+pub mod FieldNames
+pub mod Placed
