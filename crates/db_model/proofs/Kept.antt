@@ -170,6 +170,22 @@ record Part (room : ℕ) (es : List Entry) : Type 0 where
   apart : Apart es
   within : length es ≤ room
 
+-- a part stays within its declared length, whatever stands in it
+pub put_in_within : (room : ℕ) (e : Entry) (es : List Entry) → length es ≤ room → length (put_in room e es) ≤ room
+put_in_within room e es h = by (list_any (same_place e) es)
+  where
+    full : (o : Option ℕ) → soonest es ≡ o → length (put_in_full o e es) ≤ room
+    full None k = h
+    full (Some t) k = omega (arith, push_length (evict t es) e, length_evict t es (soonest_there t es k), h)
+
+    by_room : (b : Bool) → nat_lt (length es) room ≡ b → length (if b then es ++ e ∷ [] else put_in_full (soonest es) e es) ≤ room
+    by_room true k = omega (arith, push_length es e, (Decides-ltb (length es) room).0 k)
+    by_room false k = full (soonest es) refl
+
+    by : (b : Bool) → length (if b then replace e es else (if nat_lt (length es) room then es ++ e ∷ [] else put_in_full (soonest es) e es)) ≤ room
+    by true = omega (arith, length_replace e es, h)
+    by false = by_room (nat_lt (length es) room) refl
+
 put_in_keeps : (room : ℕ) (e : Entry) (es : List Entry) → Part room es → Part room (put_in room e es)
 put_in_keeps room e es h = by (list_any (same_place e) es) refl
   where

@@ -1,17 +1,17 @@
 -- The laws of the definitions, each in the words of its subject.
-use Rattle.std.specs.Prelude.{◌≡◌, ℕ, suc, Bool, true, ◌+◌, ◌≤◌, List, [], ◌∷◌, ◌++◌, length, drop, slice_get, ◌↔◌, Some, None}
+use Rattle.std.specs.Prelude.{◌≡◌, ℕ, suc, Bool, true, ◌+◌, ◌<◌, ◌≤◌, List, [], ◌∷◌, ◌++◌, length, drop, slice_get, ◌↔◌, Some, None}
 use Rattle.db_model.specs.declared.database.Database.{Database}
 use Rattle.db_model.specs.declared.database.Protocol.{Protocol}
 use Rattle.db_model.specs.declared.database.TableDecl.{TableDecl}
 use Rattle.db_model.specs.declared.entry.Entry.{Entry}
 use Rattle.db_model.specs.declared.entry.NewEntry.{NewEntry}
-use Rattle.db_model.specs.declared.limits.TheConstants.{MOST_NESTED}
+use Rattle.db_model.specs.declared.limits.TheConstants.{MOST_NESTED, STAMP_END}
 use Rattle.db_model.specs.declared.packet.Packet.{Packet}
 use Rattle.db_model.specs.declared.question.Question.{Question}
 use Rattle.db_model.specs.Chain.{elements_of}
 use Rattle.db_model.specs.Decoding.{dec}
 use Rattle.db_model.specs.Elements.{list_within}
-use Rattle.db_model.specs.Fitting.{question_fits, session_fits, answer_fits, table_of}
+use Rattle.db_model.specs.Fitting.{look_fits, add_fits, question_fits, table_fits, session_fits, hit_fits, answer_fits, table_of}
 use Rattle.db_model.specs.Kept.{Kept, made_by_put}
 use Rattle.db_model.specs.Objection.{IsChecked}
 use Rattle.db_model.specs.Questions.{Gives, Asking, Log, Step, pure, ◌then◌, State, from}
@@ -62,9 +62,14 @@ pub record TableKeeps : Type 0 where
   pub added : (d : TableDecl) (t : Parts) (n : NewEntry) (now : ℕ) → Kept d t → Kept d (add d t n now)
   pub looked : (d : TableDecl) (t : Parts) (keys : KeyList) (renew : Bool) (now : ℕ) → Kept d t → Kept d (look d t keys renew now).1
 
+-- what a table holds goes on to fit its declaration, by that alone, and so does the row of a hit
+pub record TableFits : Type 0 where
+  pub added : (d : TableDecl) (t : Parts) (n : NewEntry) (now : ℕ) → table_fits d t ≡ true → add_fits d n ≡ true → now < STAMP_END → table_fits d (add d t n now) ≡ true
+  pub looked : (d : TableDecl) (t : Parts) (keys : KeyList) (renew : Bool) (now : ℕ) → table_fits d t ≡ true → look_fits d keys ≡ true → now < STAMP_END → (hit_fits d (look d t keys renew now).0 ≡ true) × (table_fits d (look d t keys renew now).1 ≡ true)
+
 -- a question that fits leaves a session that fits, and the row of its hit fits
 abbrev pub FitsStay : Type 0
-FitsStay = (db : Database) (s : Session) (q : Question) (t : ℕ) → session_fits db s ≡ true → question_fits db q ≡ true → answer_fits db (slice_get db.tables (table_of q)) (ask db s q t).0 × (session_fits db (ask db s q t).1 ≡ true)
+FitsStay = (db : Database) (s : Session) (q : Question) (t : ℕ) → session_fits db s ≡ true → question_fits db q ≡ true → t < STAMP_END → (answer_fits db (slice_get db.tables (table_of q)) (ask db s q t).0 ≡ true) × (session_fits db (ask db s q t).1 ≡ true)
 
 -- a computation that leaves its questions open says the same as one that carries session and log through its state: a result leaves the state, one computation after another is the one after the other on whole states, and a question is answered by the session, with its pair behind the log
 pub record CarriesState (S A B : Type 0) : Type 0 where

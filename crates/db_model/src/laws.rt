@@ -1,6 +1,6 @@
 //! The laws of the definitions, each the contract of a function that does nothing.
 
-ghost use Rattle.db_model.specs.Laws.{UnchangedDecoding, UnchangedComputation, DiffersNowhere, AgreesInParts, SessionOfDecoding, SerialFrom, SerialFront, IncludesEnd, PutKeeps, TableKeeps, FitsStay, CarriesState};
+ghost use Rattle.db_model.specs.Laws.{UnchangedDecoding, UnchangedComputation, DiffersNowhere, AgreesInParts, SessionOfDecoding, SerialFrom, SerialFront, IncludesEnd, PutKeeps, TableKeeps, TableFits, FitsStay, CarriesState};
 
 /// Where the log of a decoding agrees with another session, decoding from there gives the same tree and log.
 pub fn unchanged_decoding()
@@ -50,6 +50,11 @@ pub fn put_keeps()
 /// An addition and a look-up keep that.
 pub fn table_keeps()
     ensures { TableKeeps }
+{}
+
+/// What a table holds goes on to fit its declaration, and so does the row of a hit.
+pub fn table_fits()
+    ensures { TableFits }
 {}
 
 /// A question that fits leaves a session that fits, and the row of its hit fits.
