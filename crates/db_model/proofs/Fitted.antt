@@ -18,9 +18,9 @@ use Rattle.db_model.specs.declared.question.Answer.{Answer}
 use Rattle.db_model.specs.declared.question.Answer.TheVariants.{Miss, Hit, Done}
 use Rattle.db_model.specs.declared.question.Question.TheVariants.{Look, Add}
 use Rattle.db_model.specs.Expression.{key_sizes}
-use Rattle.db_model.specs.Fitting.{keys_fit, masks_fit, row_fits, row_declared, look_fits, add_fits, look_fits_in, add_fits_in, question_fits, deadline_fits, entry_fits, exact_fits, masked_fits, table_fits, rows_declared, table_declared, tables_fit, session_fits, hit_fits, answer_fits}
+use Rattle.db_model.specs.Fitting.{keys_fit, masks_fit, row_fits, row_declared, look_fits, add_fits, look_fits_in, add_fits_in, question_fits, log_fits, deadline_fits, entry_fits, exact_fits, masked_fits, table_fits, rows_declared, table_declared, tables_fit, session_fits, hit_fits, answer_fits}
 use Rattle.db_model.specs.Forms.{is_number}
-use Rattle.db_model.specs.Laws.{TableFits, FitsStay}
+use Rattle.db_model.specs.Laws.{TableFits, FitsStay, AfterFits}
 use Rattle.db_model.specs.Session.{Session, declared, look_in, add_in, ask}
 use Rattle.db_model.specs.Table.{Parts, KeyList, empty, same_keys, same_place, masked, masked_by, live, matches, replace, soonest, evict, put_in_full, put_in, put_by, put, after_seconds, first_deadline, entry_at, add, if_live, first_of, found, renewed_by, answered, look}
 use Rattle.db_model.proofs.Kept.{keys_decide, put_in_within}
@@ -406,3 +406,9 @@ fits_stay db s (Add n e) t h k l = (done (slice_get db.tables n) (slice_get s n)
     done None u = refl
     done (Some d) None = refl
     done (Some d) (Some v) = refl
+
+pub after_fits : AfterFits
+after_fits db t [] s h k l = h
+after_fits db t (e ∷ m) s h k l =
+    let b = two (question_fits db e.0) (log_fits db m) k in
+    after_fits db t m (ask db s e.0 t).1 (fits_stay db s e.0 t h b.0 l).1 b.1 l

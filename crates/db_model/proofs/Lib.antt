@@ -11,3 +11,6 @@ pub mod Layers
 pub mod Fitted
 pub mod FieldNames
 pub mod Placed
+pub mod Proper
+pub mod ProperRuns
+pub mod ProperDecoding

@@ -5,19 +5,25 @@ use Rattle.db_model.specs.declared.database.Protocol.{Protocol}
 use Rattle.db_model.specs.declared.database.TableDecl.{TableDecl}
 use Rattle.db_model.specs.declared.entry.Entry.{Entry}
 use Rattle.db_model.specs.declared.entry.NewEntry.{NewEntry}
-use Rattle.db_model.specs.declared.limits.TheConstants.{MOST_NESTED, STAMP_END}
+use Rattle.db_model.specs.declared.expression.Expr.{Expr}
+use Rattle.db_model.specs.declared.limits.TheConstants.{MOST_NESTED, MOST_QUESTIONS, STAMP_END}
 use Rattle.db_model.specs.declared.packet.Packet.{Packet}
 use Rattle.db_model.specs.declared.question.Question.{Question}
-use Rattle.db_model.specs.Chain.{elements_of}
-use Rattle.db_model.specs.Decoding.{dec}
-use Rattle.db_model.specs.Elements.{list_within}
-use Rattle.db_model.specs.Fitting.{look_fits, add_fits, question_fits, table_fits, session_fits, hit_fits, answer_fits, table_of}
+use Rattle.db_model.specs.declared.tree.Proto.{Proto}
+use Rattle.db_model.specs.Chain.{elements_of, chain}
+use Rattle.db_model.specs.Decoding.{decoding, dec}
+use Rattle.db_model.specs.Elements.{list_within, list}
+use Rattle.db_model.specs.Expression.{val}
+use Rattle.db_model.specs.Fitting.{look_fits, add_fits, question_fits, log_fits, table_fits, session_fits, hit_fits, answer_fits, table_of}
 use Rattle.db_model.specs.Kept.{Kept, made_by_put}
 use Rattle.db_model.specs.Objection.{IsChecked}
-use Rattle.db_model.specs.Questions.{Gives, Asking, Log, Step, pure, ◌then◌, State, from}
+use Rattle.db_model.specs.Questions.{Asks, Gives, Asking, and_then, Log, Played, play, Step, pure, ◌then◌, State, from}
+use Rattle.db_model.specs.Names.{Text}
+use Rattle.db_model.specs.Numbering.{Counts}
+use Rattle.db_model.specs.Proper.{Proper, Leaves, TakesFrom, Any, AnyEnd, left_in, left_in_frame, PlaysProper}
 use Rattle.db_model.specs.Replay.{after, Agrees, differs}
 use Rattle.db_model.specs.Serial.{state, decoded_at}
-use Rattle.db_model.specs.Session.{Session, ask}
+use Rattle.db_model.specs.Session.{Session, declared, ask}
 use Rattle.db_model.specs.Table.{Parts, KeyList, add, look}
 
 -- unchanged answers, unchanged decoding: where the log of the one agrees with the other session, decoding from there gives the same tree and log, and the session that the log leaves there
@@ -70,6 +76,45 @@ pub record TableFits : Type 0 where
 -- a question that fits leaves a session that fits, and the row of its hit fits
 abbrev pub FitsStay : Type 0
 FitsStay = (db : Database) (s : Session) (q : Question) (t : ℕ) → session_fits db s ≡ true → question_fits db q ≡ true → t < STAMP_END → (answer_fits db (slice_get db.tables (table_of q)) (ask db s q t).0 ≡ true) × (session_fits db (ask db s q t).1 ≡ true)
+
+-- the session of a database to which nothing was added fits
+abbrev pub DeclaredFits : Type 0
+DeclaredFits = (db : Database) → session_fits db (declared db) ≡ true
+
+-- in a checked database each question that a decoding asks fits, whatever it is answered, and there are at most as many as a packet may ask. The same holds of what the elements of a protocol and a chain ask, and of any expression in any database
+pub record AsksProperly : Type 0 where
+  pub decoding : (db : Database) (p : Packet) → IsChecked db → Proper db AnyEnd MOST_QUESTIONS (decoding db p)
+  pub chain : (db : Database) (n q : ℕ) → IsChecked db → TakesFrom db left_in_frame Any (chain db n q)
+  pub list : (db : Database) (q : ℕ) (p : Protocol) (at : Counts) → IsChecked db → slice_get db.protocols q ≡ Some p → TakesFrom db left_in_frame Any (list db p (elements_of p) at)
+  pub expression : (db : Database) (fields : List Text) (e : Expr) → TakesFrom db left_in Any (val db fields e)
+
+-- one computation after another asks properly exactly where the first does, and then the second from what is left. And what is played of them over a session that fits: the first, where the second follows, and a step
+pub record ProperComputations (S A B : Type 0) : Type 0 where
+  pub one_after_another : (db : Database) (n : ℕ) (x : Asks A) (f : A → Asks B) → Proper db AnyEnd n (and_then x f) ↔ Proper db (λ a m. Proper db AnyEnd m (f a)) n x
+  pub first : (db : Database) (n t : ℕ) (x : Asks A) (f : A → Asks B) (s : Session) → t < STAMP_END → Proper db AnyEnd n (and_then x f) → session_fits db s ≡ true → PlaysProper db (λ a m. Proper db AnyEnd m (f a)) n (play db t x s)
+  pub step : (db : Database) (left : S → ℕ) (n t : ℕ) (x : Asks (A × S)) (s : Session) → t < STAMP_END → Proper db (Leaves left Any) n x → session_fits db s ≡ true → PlaysProper db (Leaves left Any) n (play db t x s)
+
+-- a log of questions that fit leaves a session that fits
+abbrev pub AfterFits : Type 0
+AfterFits = (db : Database) (t : ℕ) (l : Log) (s : Session) → session_fits db s ≡ true → log_fits db l ≡ true → t < STAMP_END → session_fits db (after db t l s) ≡ true
+
+-- a decoding whose questions fit and are at most as many as a packet may ask, and that leaves a session that fits
+pub record DecodesFitting (db : Database) (d : Played (List Proto)) : Type 0 where
+  pub log : log_fits db d.log ≡ true
+  pub session : session_fits db d.session ≡ true
+  pub most : length d.log ≤ MOST_QUESTIONS
+
+-- from a session that fits each decoding in a checked database is such a one
+abbrev pub DecodingFits : Type 0
+DecodingFits = (db : Database) (p : Packet) (s : Session) → IsChecked db → p.stamp < STAMP_END → session_fits db s ≡ true → DecodesFitting db (dec db p s)
+
+-- all stamps come before the end of stamps
+abbrev pub InTime : List Packet → Type 0
+InTime ps = (i : ℕ) (p : Packet) → slice_get ps i ≡ Some p → p.stamp < STAMP_END
+
+-- and so is each of packets decoded one by one, and each state between them fits
+abbrev pub SerialFits : Type 0
+SerialFits = (db : Database) (s : Session) (ps : List Packet) (k : ℕ) → IsChecked db → session_fits db s ≡ true → InTime ps → (session_fits db (state db s ps k) ≡ true) × DecodesFitting db (decoded_at db s ps k)
 
 -- a computation that leaves its questions open says the same as one that carries session and log through its state: a result leaves the state, one computation after another is the one after the other on whole states, and a question is answered by the session, with its pair behind the log
 pub record CarriesState (S A B : Type 0) : Type 0 where

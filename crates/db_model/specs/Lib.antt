@@ -21,6 +21,7 @@ pub mod Numbering
 pub mod Numbers
 pub mod Objection
 pub mod Over
+pub mod Proper
 pub mod Questions
 pub mod Reason
 pub mod Replay

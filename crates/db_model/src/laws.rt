@@ -1,6 +1,6 @@
 //! The laws of the definitions, each the contract of a function that does nothing.
 
-ghost use Rattle.db_model.specs.Laws.{UnchangedDecoding, UnchangedComputation, DiffersNowhere, AgreesInParts, SessionOfDecoding, SerialFrom, SerialFront, IncludesEnd, PutKeeps, TableKeeps, TableFits, FitsStay, CarriesState};
+ghost use Rattle.db_model.specs.Laws.{UnchangedDecoding, UnchangedComputation, DiffersNowhere, AgreesInParts, SessionOfDecoding, SerialFrom, SerialFront, IncludesEnd, PutKeeps, TableKeeps, TableFits, FitsStay, DeclaredFits, AsksProperly, ProperComputations, AfterFits, DecodingFits, SerialFits, CarriesState};
 
 /// Where the log of a decoding agrees with another session, decoding from there gives the same tree and log.
 pub fn unchanged_decoding()
@@ -60,6 +60,36 @@ pub fn table_fits()
 /// A question that fits leaves a session that fits, and the row of its hit fits.
 pub fn fits_stay()
     ensures { FitsStay }
+{}
+
+/// The session of a database to which nothing was added fits.
+pub fn declared_fits()
+    ensures { DeclaredFits }
+{}
+
+/// In a checked database each question that a decoding asks fits, and there are at most as many as a packet may ask.
+pub fn asks_properly()
+    ensures { AsksProperly }
+{}
+
+/// How computations that ask properly are put together, and what they give over a session that fits.
+pub fn proper_computations<S, A, B>()
+    ensures { ProperComputations S A B }
+{}
+
+/// A log of questions that fit leaves a session that fits.
+pub fn after_fits()
+    ensures { AfterFits }
+{}
+
+/// A decoding from a session that fits asks questions that fit, and leaves a session that fits.
+pub fn decoding_fits()
+    ensures { DecodingFits }
+{}
+
+/// Packets decoded one by one from a session that fits leave sessions that fit.
+pub fn serial_fits()
+    ensures { SerialFits }
 {}
 
 /// Leaving questions open says the same as carrying session and log through the state.
