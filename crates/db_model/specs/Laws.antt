@@ -12,14 +12,14 @@ use Rattle.db_model.specs.declared.question.Question.{Question}
 use Rattle.db_model.specs.declared.tree.Proto.{Proto}
 use Rattle.db_model.specs.Chain.{elements_of, chain}
 use Rattle.db_model.specs.Decoding.{decoding, dec}
-use Rattle.db_model.specs.Elements.{list_within, list}
+use Rattle.db_model.specs.Elements.{list_within, list, block_of, included}
 use Rattle.db_model.specs.Expression.{val}
 use Rattle.db_model.specs.Fitting.{look_fits, add_fits, question_fits, log_fits, table_fits, session_fits, hit_fits, answer_fits, table_of}
 use Rattle.db_model.specs.Kept.{Kept, made_by_put}
 use Rattle.db_model.specs.Objection.{IsChecked}
 use Rattle.db_model.specs.Questions.{Asks, Gives, Asking, and_then, Log, Played, play, Step, pure, ◌then◌, State, from}
 use Rattle.db_model.specs.Names.{Text}
-use Rattle.db_model.specs.Numbering.{Counts}
+use Rattle.db_model.specs.Numbering.{Counts, block_at}
 use Rattle.db_model.specs.Proper.{Proper, Leaves, TakesFrom, Any, AnyEnd, left_in, left_in_frame, PlaysProper}
 use Rattle.db_model.specs.Replay.{after, Agrees, differs}
 use Rattle.db_model.specs.Serial.{state, decoded_at}
@@ -55,9 +55,10 @@ SerialFrom = (db : Database) (s : Session) (ps : List Packet) (m k : ℕ) → (s
 abbrev pub SerialFront : Type 0
 SerialFront = (db : Database) (s : Session) (ps qs : List Packet) (k : ℕ) → k ≤ length ps → state db s (ps ++ qs) k ≡ state db s ps k
 
--- the levels of included blocks are enough: in a checked database one more changes nothing
-abbrev pub IncludesEnd : Type 0
-IncludesEnd = (db : Database) (q : ℕ) (p : Protocol) → IsChecked db → slice_get db.protocols q ≡ Some p → list_within db p MOST_NESTED (elements_of p) ≡ list_within db p (suc MOST_NESTED) (elements_of p)
+-- the levels of included blocks are enough: in a checked database a name means the block of that name in which each name means the same, however deep it stands, and more levels mean nothing else. So each named block may be compiled by itself, and an include be a jump to it
+pub record IncludesEnd : Type 0 where
+  pub is_block : (db : Database) (q : ℕ) (p : Protocol) (name : Text) → IsChecked db → slice_get db.protocols q ≡ Some p → included db p MOST_NESTED name ≡ block_of db p (included db p MOST_NESTED) (block_at p name)
+  pub more_levels : (db : Database) (q : ℕ) (p : Protocol) (name : Text) (n : ℕ) → IsChecked db → slice_get db.protocols q ≡ Some p → MOST_NESTED ≤ n → included db p n name ≡ included db p MOST_NESTED name
 
 -- in a table to which entries were only put, no two of a part have the same keys and masks, and the declared lengths hold
 abbrev pub PutKeeps : Type 0

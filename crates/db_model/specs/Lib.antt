@@ -1,5 +1,6 @@
 pub mod Bare
 pub mod BlockFaults
+pub mod Bytes
 pub mod Chain
 pub mod Decoding
 pub mod Elements
