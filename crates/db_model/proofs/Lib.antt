@@ -10,6 +10,8 @@ pub mod Includes
 pub mod Cycles
 pub mod Layers
 pub mod Fitted
+pub mod FieldNames
+pub mod Placed
 pub mod Proper
 pub mod ProperRuns
 pub mod ProperDecoding

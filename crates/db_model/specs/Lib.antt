@@ -6,6 +6,7 @@ pub mod Decoding
 pub mod Elements
 pub mod Expression
 pub mod Extent
+pub mod FieldNames
 pub mod Fitting
 pub mod Folds
 pub mod Forms
@@ -13,6 +14,7 @@ pub mod Kept
 pub mod Laws
 pub mod Lines
 pub mod Name
+pub mod NameIndex
 pub mod NameFaults
 pub mod Names
 pub mod NumberFaults

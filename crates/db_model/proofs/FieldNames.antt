@@ -1,7 +1,9 @@
 -- The names of the fields in an element, by its parts.
-use Rattle.std.specs.Prelude.{◌≡◌, ℕ, Bool, true, false, ◌||◌, List, [], ◌∷◌, ◌++◌, map, bytes_eq, Option, Some, None}
+use Rattle.std.specs.Prelude.{◌≡◌, ℕ, ◌+◌, ◌<◌, Bool, true, false, ◌||◌, List, [], ◌∷◌, ◌++◌, map, length, drop, bytes_eq, Option, Some, None}
 use Rattle.std.specs.Option.{option_map}
-use Rattle.std.proofs.Common.{refl, sym, ap, ◌∙◌}
+use Rattle.std.proofs.Common.{refl, sym, ap, ◌∙◌, append-nil, append_assoc}
+use Rattle.std.proofs.Math.ListN.{get_or}
+use Rattle.std.proofs.lemmas.List.{at_drop_more}
 use Rattle.db_model.specs.declared.element.Branch.{Branch}
 use Rattle.db_model.specs.declared.element.Case.{Case}
 use Rattle.db_model.specs.declared.element.Element as element
@@ -16,9 +18,9 @@ use Rattle.db_model.specs.declared.entry.Validity.{Validity}
 use Rattle.db_model.specs.Typing.{is_among}
 use Rattle.db_model.specs.declared.expression.Expr.{Expr}
 use Rattle.db_model.specs.Names.{Text}
-use Rattle.db_model.specs.Numbering.{case_names, branch_names, names_of, names_in, names_step}
+use Rattle.db_model.specs.Numbering.{all_names, case_names, branch_names, names_of, names_in, names_step}
 use Rattle.db_model.proofs.Layers.{fold_block, fold_loop, fold_switch, fold_if, fold_case, fold_branch}
-use Rattle.numbering.specs.Parts.{names_of_cases, names_of_other}
+use Rattle.db_model.specs.FieldNames.{names_of_cases, names_of_other}
 
 pub names_block : (line : ℕ) (name : Text) (longname : Option (List ℕ)) (body : List Element) → names_of (element.Block line name longname body) ≡ names_in body
 unfolding names_of
@@ -89,3 +91,20 @@ there_is name a b h = among_either name a b ∙ ap (λ x. x || is_among name b) 
 
 pub empty_is : (name : Text) (x y : Element) → x ≡ y → names_of y ≡ [] → false ≡ is_among name (names_of x)
 empty_is name x y e h = sym (ap (λ l. is_among name l) (ap names_of e ∙ h))
+
+-- the names of an element that is another
+pub names_are : (x y : Element) (l : List Text) → x ≡ y → names_of y ≡ l → l ≡ names_of x
+names_are x y l e h = sym (ap names_of e ∙ h)
+
+pub none_behind : (have : List Text) (x y : Element) → x ≡ y → names_of y ≡ [] → have ≡ have ++ names_of x
+none_behind have x y e h = sym (append-nil have) ∙ ap (λ l. have ++ l) (names_are x y [] e h)
+
+-- two lists behind what was there
+pub both_behind : (have more a b l : List Text) → more ≡ have ++ a → a ++ b ≡ l → more ++ b ≡ have ++ l
+both_behind have more a b l e h = ap (λ m. m ++ b) e ∙ append_assoc have a b ∙ ap (λ m. have ++ m) h
+
+-- a walk over parts that have names: what is there, with the names of the parts that are left
+pub walk_on : {X : Type 0} (f : X → List Text) (xs : List X) (i : ℕ) (d : X) (have more all : List Text) → i < length xs → d ≡ get_or xs i d → have ++ all_names (map f (drop i xs)) ≡ all → more ≡ have ++ f d → more ++ all_names (map f (drop (i + 1) xs)) ≡ all
+walk_on f xs i d have more all within e h g =
+    both_behind have more (f d) (all_names (map f (drop (i + 1) xs))) (f (get_or xs i d) ++ all_names (map f (drop (i + 1) xs))) g (ap (λ y. f y ++ all_names (map f (drop (i + 1) xs))) e)
+    ∙ ap (λ l. have ++ l) (sym (at_drop_more (λ l. all_names (map f l)) xs i d within)) ∙ h
