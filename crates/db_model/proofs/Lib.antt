@@ -7,5 +7,10 @@ pub mod LawsHold
 pub mod BareDb
 pub mod Accepted
 pub mod Includes
+pub mod Cycles
 pub mod Layers
 pub mod Fitted
+pub mod Proper
+pub mod ProperRuns
+pub mod ProperDecoding
+pub mod Typed

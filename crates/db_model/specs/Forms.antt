@@ -3,13 +3,17 @@ use Rattle.std.specs.Prelude.{ℕ, ◌+◌, max, Bool, true, ◌&&◌, nat_le, L
 use Rattle.std.specs.List.{list_all}
 use Rattle.db_model.specs.declared.expression.Expr.{Expr, Expr-F}
 use Rattle.db_model.specs.declared.expression.Expr.TheOpen as layer
-use Rattle.db_model.specs.declared.limits.TheConstants.{MOST_TEXT, MOST_EXPRESSION_NODES, MOST_EXPRESSION_DEPTH}
+use Rattle.db_model.specs.declared.limits.TheConstants.{GREATEST_NUMBER, MOST_TEXT, MOST_EXPRESSION_NODES, MOST_EXPRESSION_DEPTH}
 use Rattle.db_model.specs.Folds.{fold_expr}
 use Rattle.db_model.specs.Name.{is_name}
 use Rattle.db_model.specs.Names.{Text}
 
 abbrev pub is_between : ℕ → ℕ → ℕ → Bool
 is_between low high n = nat_le low n && nat_le n high
+
+-- a number is no greater than the greatest one
+abbrev pub is_number : ℕ → Bool
+is_number n = nat_le n GREATEST_NUMBER
 
 -- printable bytes, of which there are few enough
 abbrev pub is_text : Text → Bool

@@ -1,5 +1,6 @@
 pub mod Bare
 pub mod BlockFaults
+pub mod Bytes
 pub mod Chain
 pub mod Decoding
 pub mod Elements
@@ -19,6 +20,7 @@ pub mod Numbering
 pub mod Numbers
 pub mod Objection
 pub mod Over
+pub mod Proper
 pub mod Questions
 pub mod Reason
 pub mod Replay
@@ -29,4 +31,5 @@ pub mod Shape
 pub mod Special
 pub mod Table
 pub mod TypeFaults
+pub mod Typed
 pub mod Typing

@@ -73,6 +73,7 @@ pub use expression::Special;
 pub use expression::TypeFault;
 pub use field_kind::CaseRange;
 pub use field_kind::FieldKind;
+pub use limits::DEADLINE_END;
 pub use limits::GREATEST_NUMBER;
 pub use limits::LEAST_ALIGNMENT;
 pub use limits::MOST_ALIGNMENT;

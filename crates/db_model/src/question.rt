@@ -1,5 +1,5 @@
 ghost use Rattle.std.specs.Prelude.{◌≡◌, ◌<◌, Option, true};
-ghost use Rattle.db_model.specs.Fitting.{has_room};
+ghost use Rattle.db_model.specs.Fitting.{question_fits};
 ghost use Rattle.db_model.specs.Over.{AnswersTo};
 ghost use Rattle.db_model.specs.Questions.{Log};
 ghost use Rattle.db_model.specs.Session.{Session};
@@ -31,10 +31,10 @@ pub trait Answers {
 
     ghost told: { Self → Option Log };
 
-    /// Answers a question as the content does at the moment `t`. Its keys, masks and row are no more and no
-    /// longer than declared. A refusal of memory changes nothing.
+    /// Answers a question that fits the database as the content does at the moment `t`. A refusal of memory
+    /// changes nothing.
     fn ask(&mut self, question: &Question, t: Stamp) -> Result<Answer, NoMemory>
-        requires room { has_room (database self.old) question.now ≡ true }
+        requires fits { question_fits (database self.old) question.now ≡ true }
         requires time { t < STAMP_END }
         ensures database { database self.new ≡ database self.old }
         ensures answer { AnswersTo (database self.old) t question.now result (content self.old) (told self.old) (content self.new) (told self.new) };
