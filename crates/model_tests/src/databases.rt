@@ -1,0 +1,72 @@
+use db_model::{Bytes, CheckedDb, Env, MOST_QUESTIONS, MOST_TURNS, NoMemory, Packet, place_of};
+use std::alloc::Global;
+use std::test::Fail;
+
+fn is_startproto_alone(db: &CheckedDb) -> bool {
+    let protocols = &db.database().protocols;
+    match protocols.get(0) {
+        Some(protocol) => {
+            protocols.len() == 1 && protocol.name.as_slice() == b"startproto".as_slice()
+        }
+        None => false,
+    }
+}
+
+#[test]
+fn the_smallest_database_is_checked(rt: HostRuntime) -> Result<(), Fail> {
+    let bare = CheckedDb::bare(rt.alloc())?;
+    assert!(rt; is_startproto_alone(&bare));
+    Ok(())
+}
+
+/// Three captured bytes of a packet that had 60.
+fn packet(alloc: Global) -> Result<Packet, NoMemory> {
+    Ok(Packet {
+        number: 0,
+        link: 1,
+        stamp: 7,
+        length: 60,
+        bytes: Bytes::copy_of(alloc, b"abc")?,
+    })
+}
+
+fn begins_full(env: &Env) -> bool {
+    env.limit == 3
+        && env.turns == MOST_TURNS
+        && env.questions == MOST_QUESTIONS
+        && env.vars.len() == 0
+        && env.hits.len() == 0
+        && env.present.len() == 0
+        && env.packet.bytes.as_slice() == b"abc".as_slice()
+}
+
+fn begins(alloc: Global) -> Result<bool, NoMemory> {
+    let bare = CheckedDb::bare(alloc)?;
+    let env = Env::start(alloc, &bare, &packet(alloc)?)?;
+    Ok(begins_full(&env))
+}
+
+#[test]
+fn a_decoding_begins_with_full_budgets(rt: HostRuntime) -> Result<(), Fail> {
+    let full = begins(rt.alloc())?;
+    assert!(rt; full);
+    Ok(())
+}
+
+fn places_in(db: &CheckedDb) -> [usize; 5] {
+    let database = db.database();
+    [
+        database.protocol_at(b"startproto"),
+        database.protocol_at(b"ip"),
+        place_of(b"ip", database.protocols.as_slice()),
+        database.variable_at(b"src"),
+        database.table_at(b"sessions"),
+    ]
+}
+
+#[test]
+fn declarations_are_found_by_their_names(rt: HostRuntime) -> Result<(), Fail> {
+    let bare = CheckedDb::bare(rt.alloc())?;
+    assert!(rt; places_in(&bare) == [0, 1, 1, 0, 0]);
+    Ok(())
+}
