@@ -19,6 +19,3 @@ pub use reader::{ReadFail, read_database, spells_one_database};
 pub use run::run_serial;
 pub use simple::{SimpleDb, SimpleField, SimpleProtocol};
 pub use status::{Part, Role, Status};
-
-#[cfg(test)]
-mod tests;

@@ -21,7 +21,7 @@ const MOST_TEXT: usize = 1_048_576;
 const MOST_PROTOCOLS: usize = 1_024;
 
 /// Why a text was not read.
-#[derive(Clone, Copy, Debug, PartialEq, Eq)]
+#[derive(Clone, Copy)]
 pub enum ReadFail {
     /// It is not spelled as a simple database.
     NotSimple,
@@ -320,6 +320,3 @@ pub fn read_database(alloc: Global, text: &[u8]) -> Result<SimpleDb, ReadFail>
 pub fn spells_one_database()
     ensures { SpellsOneDatabase }
 {}
-
-#[cfg(test)]
-mod tests;
