@@ -4,6 +4,8 @@
 
 mod capture;
 mod decode;
+mod laws;
+mod limits;
 mod load;
 mod markup;
 mod output;
@@ -14,6 +16,7 @@ mod run;
 mod simple;
 mod status;
 
+pub use laws::a_run_ends_well;
 pub use plan::Plan;
 pub use reader::{ReadFail, read_database, spells_one_database};
 pub use run::run_serial;
