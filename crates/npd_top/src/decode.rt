@@ -46,7 +46,8 @@ fn field_node(
 ) -> Result<Node, NoMemory>
     requires within { at + size ≤ length bytes.now }
     requires bound { length bytes.now ≤ MOST_BYTES }
-    ensures { IfOk result (λ node. node ≡ Node.Field number at size (take size (drop at bytes.now))) }
+    ensures { IfOk result (λ node.
+        node ≡ Node.Field number at size (take size (drop at bytes.now))) }
 {
     let value = &bytes[at as usize..(at + size) as usize];
     Ok(Node::Field {
@@ -81,7 +82,8 @@ fn decode_fields(
 ) -> Result<Went, NoMemory>
     requires within { at ≤ length bytes.now }
     requires bound { length bytes.now ≤ MOST_BYTES }
-    ensures meaning { IfOk result (λ went. went ≡ Decoding.fields_from 0 at room fields.now bytes.now) }
+    ensures meaning { IfOk result (λ went.
+        went ≡ Decoding.fields_from 0 at room fields.now bytes.now) }
     ensures within { IfOk result (λ went. went.at ≤ length bytes.now) }
     ensures onward { IfOk result (λ went. at ≤ went.at) }
 {
@@ -188,7 +190,8 @@ fn decode_chain(
 ) -> Result<Chain, NoMemory>
     requires few { length db.now ≤ MOST_PROTOCOLS }
     requires bound { length bytes.now ≤ MOST_BYTES }
-    ensures meaning { IfOk result (λ chain. chain ≡ Decoding.chain more db.now first 0 room bytes.now) }
+    ensures meaning { IfOk result (λ chain.
+        chain ≡ Decoding.chain more db.now first 0 room bytes.now) }
     ensures within { IfOk result (λ chain. chain.at ≤ length bytes.now) }
 {
     let mut protos = Items::new(alloc);

@@ -147,7 +147,8 @@ fn push_proto_lines(
     size: u32,
     nodes: &[u8],
 ) -> Result<(), NoMemory>
-    ensures { OnOk result (text.new.items ≡ text.old.items ++ Pdml.proto_lines name.now pos size nodes.now) }
+    ensures { OnOk result (text.new.items ≡
+        text.old.items ++ Pdml.proto_lines name.now pos size nodes.now) }
 {
     push(text, b"<proto")?;
     push_place(text, name, pos, size)?;

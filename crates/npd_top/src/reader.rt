@@ -87,7 +87,8 @@ fn size_of(digits: &[u8]) -> Option<u32>
 impl<'a> Reader<'a> {
     /// Goes past a literal, where it stands here.
     fn goes_past(&mut self, literal: &[u8]) -> bool
-        ensures { MatchBool result (Reading.after literal.now self.old.rest.now ≡ Some self.new.rest.now)
+        ensures { MatchBool result
+            (Reading.after literal.now self.old.rest.now ≡ Some self.new.rest.now)
             ((Reading.after literal.now self.old.rest.now ≡ None) × (self.new.rest.now ≡ self.old.rest.now)) }
     {
         match self.rest.strip_prefix(literal) {
