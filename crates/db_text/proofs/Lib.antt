@@ -1,0 +1,4 @@
+pub mod Accepted
+pub mod Bytes
+pub mod Depth
+pub mod Followed

@@ -1,0 +1,6 @@
+pub mod Grammar
+pub mod Machine
+pub mod Refusal
+pub mod Runs
+pub mod Text
+pub mod Tree
