@@ -14,11 +14,12 @@ use Rattle.db_text.specs.declared.mode.Move.{Move}
 use Rattle.db_text.specs.declared.node.Attribute.{Attribute}
 use Rattle.db_text.specs.declared.node.Node.{Node}
 use Rattle.db_text.specs.declared.notes.Notes.{Notes}
-use Rattle.db_text.specs.declared.parts.Frame.{Frame}
+use Rattle.db_text.specs.declared.frame.Frame.{Frame}
+use Rattle.db_text.specs.declared.parts.Parts.{Parts}
 use Rattle.db_text.specs.Text.{Placed, is_space, is_letter, is_name_byte, is_name, is_declared, begins_with, has_double, Quote, double, single, is_char, as_space, entity_text, character}
 use Rattle.db_text.specs.Tree.{attribute_of, element_of}
 use Rattle.db_text.specs.Grammar.{Stands, Spaces, no_space, space, Gap, gap, Mark, no_mark, mark, Declaration, no_declaration, declaration, Comment, comment, Misc, no_misc, misc_space, misc_comment, Chars, no_char, char, entity, OneAttribute, one_attribute, Attributes, no_attribute, attribute, Opening, opening, Element, empty, nested, Content, no_content, content_space, content_comment, content_element, Document, document}
-use Rattle.db_text.specs.Machine.{Stack, notes, frame, Parts, parts, State, state, at, start, doing, go, when, place_in, front, begin, between, opens, closes, not_letter, less, fixed_text, behind, fixed_next, in_declaration, in_comment, tag, in_name, in_tag, before_equals, in_attribute_name, after_equals, in_value, ampersand, ampersand_a, slash, ending, closing_next, decide, is_empty, popped, top_of, put, attributed, moved, step, fed}
+use Rattle.db_text.specs.Machine.{Stack, notes, frame, parts, State, state, at, start, doing, go, when, place_in, front, begin, between, opens, closes, not_letter, less, fixed_text, behind, fixed_next, in_declaration, in_comment, tag, in_name, in_tag, before_equals, in_attribute_name, after_equals, in_value, ampersand, ampersand_a, slash, ending, closing_next, decide, is_empty, popped, top_of, put, attributed, moved, step, fed}
 use Rattle.db_text.proofs.Bytes.{both, conj, no, same, or_false, take_push, take_whole, take_past, name_push, declared_push, quiet_push, free_of_quiet}
 
 -- ---- bytes that stand behind others
@@ -34,10 +35,10 @@ stands_append (b ∷ w) v from us ts h g = (h.0, h.1, h.2, h.3, stands_append w 
 gap_spaces : {ts rest : List Placed} → Gap ts rest → Spaces ts rest
 gap_spaces (gap d h) = space d h
 
-abbrev Clean : Parts → Type 0
+abbrev pub Clean : Parts → Type 0
 Clean q = (q.word ≡ []) × (q.value ≡ [])
 
-abbrev hyphens : ℕ → List ℕ
+abbrev pub hyphens : ℕ → List ℕ
 hyphens zero = []
 hyphens (suc n) = 0x2D ∷ hyphens n
 
@@ -53,7 +54,7 @@ module _ (all : List Placed) where
     pub misc : Misc vs ts
 
   -- what stands behind the open elements, in front of ts
-  abbrev Below : Stack → List Frame → List Placed → Type 0
+  abbrev pub Below : Stack → List Frame → List Placed → Type 0
   Below [] [] ts = Front ts
   Below [] (f ∷ fs) ts = ⊥
   Below (w ∷ k) [] ts = ⊥
@@ -69,7 +70,7 @@ module _ (all : List Placed) where
     pub element : Element n ws xs
     pub misc : Misc xs ts
 
-  abbrev Outside : Stack → Bool → Parts → List Placed → Type 0
+  abbrev pub Outside : Stack → Bool → Parts → List Placed → Type 0
   Outside [] true q ts = After q.top ts
   Outside [] false q ts = Below [] q.frames ts
   Outside (w ∷ k) seen q ts = Below (w ∷ k) q.frames ts
@@ -82,20 +83,20 @@ module _ (all : List Placed) where
     pub clean : Clean q
 
   -- the innermost element has begun, and its attributes were read up to ts
-  abbrev TagOf : Stack → List Frame → List Placed → Type 0
+  abbrev pub TagOf : Stack → List Frame → List Placed → Type 0
   TagOf [] fs ts = ⊥
   TagOf (w ∷ k) [] ts = ⊥
   TagOf (w ∷ k) (f ∷ fs) ts =
       (p : Placed) × (us : List Placed) × (vs : List Placed) × (p.byte ≡ 0x3C) × (p.line ≡ f.line) × (is_name w ≡ true) × Stands w us vs × Attributes f.attributes vs ts × (f.children ≡ []) × Below k fs (p ∷ us)
 
-  abbrev NameOf : Stack → List Frame → List Placed → Type 0
+  abbrev pub NameOf : Stack → List Frame → List Placed → Type 0
   NameOf [] fs ts = ⊥
   NameOf (w ∷ k) [] ts = ⊥
   NameOf (w ∷ k) (f ∷ fs) ts =
       (p : Placed) × (us : List Placed) × (p.byte ≡ 0x3C) × (p.line ≡ f.line) × (is_name w ≡ true) × Stands w us ts × (f.attributes ≡ []) × (f.children ≡ []) × Below k fs (p ∷ us)
 
   -- and the name of a further attribute
-  abbrev WordOf : Stack → List Frame → List ℕ → List Placed → Type 0
+  abbrev pub WordOf : Stack → List Frame → List ℕ → List Placed → Type 0
   WordOf names fs word ts = (us : List Placed) × (vs : List Placed) × TagOf names fs us × Gap us vs × (is_name word ≡ true) × Stands word vs ts
 
   pub record InValue (quote : ℕ) (names : Stack) (fs : List Frame) (word value : List ℕ) (ts : List Placed) : Type 0 where
@@ -112,20 +113,20 @@ module _ (all : List Placed) where
     pub quote_of : Quote quote
     pub chars : Chars quote value ys ts
 
-  abbrev SlashOf : Stack → List Frame → List Placed → Type 0
+  abbrev pub SlashOf : Stack → List Frame → List Placed → Type 0
   SlashOf [] fs ts = ⊥
   SlashOf (w ∷ k) [] ts = ⊥
   SlashOf (w ∷ k) (f ∷ fs) ts = (from : List Placed) × (us : List Placed) × Opening w f.attributes f.line from us × Stands (0x2F ∷ []) us ts × (f.children ≡ []) × Below k fs from
 
-  abbrev ClosingOf : Stack → List Frame → ℕ → List Placed → Type 0
+  abbrev pub ClosingOf : Stack → List Frame → ℕ → List Placed → Type 0
   ClosingOf [] fs read ts = ⊥
-  ClosingOf (w ∷ k) fs read ts = (from : List Placed) × Stands (0x3C ∷ 0x2F ∷ take read w) from ts × Below (w ∷ k) fs from
+  ClosingOf (w ∷ k) fs read ts = (from : List Placed) × Stands (0x3C ∷ 0x2F ∷ take read w) from ts × (read ≤ length w) × Below (w ∷ k) fs from
 
-  abbrev ClosedOf : Stack → List Frame → List Placed → Type 0
+  abbrev pub ClosedOf : Stack → List Frame → List Placed → Type 0
   ClosedOf [] fs ts = ⊥
   ClosedOf (w ∷ k) fs ts = (from : List Placed) × (us : List Placed) × Stands (0x3C ∷ 0x2F ∷ w) from us × Spaces us ts × Below (w ∷ k) fs from
 
-  abbrev BeforeFixed : Fixed → Stack → Bool → Parts → List Placed → Type 0
+  abbrev pub BeforeFixed : Fixed → Stack → Bool → Parts → List Placed → Type 0
   BeforeFixed fixed.Mark names seen q from = Fresh names seen q from × (from ≡ all)
   BeforeFixed fixed.Declaration names seen q from = Fresh names seen q from
   BeforeFixed fixed.Comment names seen q from = Outside names seen q from × Clean q
@@ -152,7 +153,7 @@ module _ (all : List Placed) where
     pub declared : list_all is_declared content ≡ true
     pub stands : Stands content us ts
 
-  abbrev In : Mode → Stack → Bool → Parts → List Placed → Type 0
+  abbrev pub In : Mode → Stack → Bool → Parts → List Placed → Type 0
   In mode.Start names seen q ts = Fresh names seen q ts × (ts ≡ all)
   In mode.Marked names seen q ts = Fresh names seen q ts
   In (mode.Less line first) names seen q ts = (p : Placed) × (p.byte ≡ 0x3C) × (p.line ≡ line) × Outside names seen q (p ∷ ts) × Clean q × (first ≡ true → Fresh names seen q (p ∷ ts))
@@ -174,12 +175,12 @@ module _ (all : List Placed) where
   In (mode.Closing read) names seen q ts = ClosingOf names q.frames read ts × Clean q
   In mode.Closed names seen q ts = ClosedOf names q.frames ts × Clean q
 
-  abbrev IfIn : Option State → List Placed → Type 0
+  abbrev pub IfIn : Option State → List Placed → Type 0
   IfIn None ts = Unit {0}
   IfIn (Some s) ts = In s.mode s.notes.names s.notes.seen s.parts ts
 
   -- what was read is known behind this move
-  abbrev Moves : Notes → Parts → List Placed → Option Move → Type 0
+  abbrev pub Moves : Notes → Parts → List Placed → Option Move → Type 0
   Moves n q ts v = IfIn (moved n q v) ts
 
   by_if : (n : Notes) (q : Parts) (ts : List Placed) (t : Bool) (x y : Option Move) → (t ≡ true → Moves n q ts x) → (t ≡ false → Moves n q ts y) → Moves n q ts (if t then x else y)
@@ -268,7 +269,7 @@ module _ (all : List Placed) where
       → Moves (notes names seen deep) q rest (closes (place_in names seen))
   keeps_slashed [] true deep q x p rest e h o c = tt
   keeps_slashed [] false deep q x p rest e h o c = tt
-  keeps_slashed (w ∷ k) seen deep q x p rest e h o c = ((x ∷ p ∷ rest, (x, p ∷ rest, refl, e, (p, rest, refl, h, refl)), o), c)
+  keeps_slashed (w ∷ k) seen deep q x p rest e h o c = ((x ∷ p ∷ rest, (x, p ∷ rest, refl, e, (p, rest, refl, h, refl)), omega arith, o), c)
 
   keeps_less : (n : Notes) (q : Parts) (line : ℕ) (first : Bool) (p : Placed) (rest : List Placed) → In (mode.Less line first) n.names n.seen q (p ∷ rest) → Moves n q rest (less line first (place_in n.names n.seen) p.byte)
   keeps_less n q line first p rest w =
@@ -496,10 +497,10 @@ module _ (all : List Placed) where
       → (o : Option ℕ) → slice_get (top_of names) read ≡ o → Moves (notes names seen deep) (parts fs word value top) rest (closing_next read p.byte o)
   keeps_closing [] seen deep fs word value top read p rest s c o e = absurd s
   keeps_closing (w ∷ k) seen deep fs word value top read p rest s c None e =
-      keeps_ending (w ∷ k) seen deep fs word value top p rest (s.0, p ∷ rest, subst (λ x. Stands (0x3C ∷ 0x2F ∷ x) s.0 (p ∷ rest)) (take_past w read e) s.1, no_space, s.2) c
+      keeps_ending (w ∷ k) seen deep fs word value top p rest (s.0, p ∷ rest, subst (λ x. Stands (0x3C ∷ 0x2F ∷ x) s.0 (p ∷ rest)) (take_past w read e) s.1, no_space, s.3) c
   keeps_closing (w ∷ k) seen deep fs word value top read p rest s c (Some b) e =
       by_when (notes (w ∷ k) seen deep) (parts fs word value top) rest (p.byte == b) _ (λ h.
-        ((s.0, subst (λ x. Stands (0x3C ∷ 0x2F ∷ x) s.0 rest) (sym (take_push w read b (slice_get_within w read b e) e)) (stands_push (0x3C ∷ 0x2F ∷ take read w) s.0 p rest b s.1 (same _ _ h)), s.2), c))
+        ((s.0, subst (λ x. Stands (0x3C ∷ 0x2F ∷ x) s.0 rest) (sym (take_push w read b (slice_get_within w read b e) e)) (stands_push (0x3C ∷ 0x2F ∷ take read w) s.0 p rest b s.1 (same _ _ h)), slice_get_within w read b e, s.3), c))
 
   -- ---- all bytes
 

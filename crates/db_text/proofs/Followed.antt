@@ -12,11 +12,12 @@ use Rattle.db_text.specs.declared.mode.Move.{Move}
 use Rattle.db_text.specs.declared.node.Attribute.{Attribute}
 use Rattle.db_text.specs.declared.node.Node.{Node}
 use Rattle.db_text.specs.declared.notes.Notes.{Notes}
-use Rattle.db_text.specs.declared.parts.Frame.{Frame}
+use Rattle.db_text.specs.declared.frame.Frame.{Frame}
+use Rattle.db_text.specs.declared.parts.Parts.{Parts}
 use Rattle.db_text.specs.Text.{Placed, is_space, is_letter, is_name_byte, is_name, is_declared, begins_with, has_double, Quote, double, single, is_char, as_space, entity_text, character}
 use Rattle.db_text.specs.Tree.{attribute_of, element_of, earlier, too_deep, any_too_deep}
 use Rattle.db_text.specs.Grammar.{Stands, Spaces, no_space, space, Gap, gap, Mark, no_mark, mark, Declaration, no_declaration, declaration, Comment, comment, Misc, no_misc, misc_space, misc_comment, Chars, no_char, char, entity, OneAttribute, one_attribute, Attributes, no_attribute, attribute, Opening, opening, Element, empty, nested, Content, no_content, content_space, content_comment, content_element, Document, document}
-use Rattle.db_text.specs.Machine.{Stack, notes, frame, Parts, parts, at, no_notes, no_parts, start, doing, go, when, place_in, opens, tag, in_name, before_equals, in_attribute_name, closing_next, decide, is_empty, if_deep, put, moved, fed, State, in_comment, in_tag, after_equals, ending, not_letter}
+use Rattle.db_text.specs.Machine.{Stack, notes, frame, parts, at, no_notes, no_parts, start, doing, go, when, place_in, opens, tag, in_name, before_equals, in_attribute_name, closing_next, decide, is_empty, if_deep, put, moved, fed, State, in_comment, in_tag, after_equals, ending, not_letter}
 use Rattle.db_text.proofs.Bytes.{both, same, itself, space_no_name, space_no_letter, length_push, at_seam, or_false}
 use Rattle.db_text.proofs.Depth.{earlier_assoc, earlier_none, any_too_deep-push, too_deep-element}
 
@@ -25,7 +26,7 @@ use Rattle.db_text.proofs.Depth.{earlier_assoc, earlier_none, any_too_deep-push,
 move_by : (m : Mode) (n : Notes) (q : Parts) (p : Placed) (ts : List Placed) (v : Option Move) → decide m n p.line p.byte ≡ v → fed (at m n q) (p ∷ ts) ≡ fed (moved n q v) ts
 move_by m n q p ts v h = ap (λ x. fed (moved n q x) ts) h
 
-byte_by : (m : Mode) (n : Notes) (q : Parts) (b : ℕ) {ts us : List Placed} {p : Placed} → ts ≡ p ∷ us → p.byte ≡ b → fed (at m n q) ts ≡ fed (moved n q (decide m n p.line b)) us
+pub byte_by : (m : Mode) (n : Notes) (q : Parts) (b : ℕ) {ts us : List Placed} {p : Placed} → ts ≡ p ∷ us → p.byte ≡ b → fed (at m n q) ts ≡ fed (moved n q (decide m n p.line b)) us
 byte_by m n q b {ts} {us} {p} e h = ap (fed (at m n q)) e ∙ ap (λ x. fed (moved n q (decide m n p.line x)) us) h
 
 -- ---- space
@@ -321,7 +322,7 @@ quote_opens : {quote : ℕ} → Quote quote → (n : Notes) (line : ℕ) → dec
 quote_opens double n line = refl
 quote_opens single n line = refl
 
-quote_closes : {quote : ℕ} → Quote quote → (n : Notes) (line : ℕ) → decide (mode.Value quote) n line quote ≡ doing act.EndsAttribute mode.BehindValue
+pub quote_closes : {quote : ℕ} → Quote quote → (n : Notes) (line : ℕ) → decide (mode.Value quote) n line quote ≡ doing act.EndsAttribute mode.BehindValue
 quote_closes double n line = refl
 quote_closes single n line = refl
 
@@ -394,7 +395,7 @@ opening_on p rest d m f k deep fs top v ends = last d p rest refl v ends
         ∙ spaces_to r.mode_ mode.Tag n1 (r.tag_.spaced n1) q2 p rest v (ends r.mode_ r.tag_ n1) (ends mode.Tag tag_tag n1) (subst (Spaces vs) e s)
 
 -- behind the whole name that closes an element
-closed_next : (w : List ℕ) (b : ℕ) → closing_next (length w) b (slice_get w (length w)) ≡ ending b
+pub closed_next : (w : List ℕ) (b : ℕ) → closing_next (length w) b (slice_get w (length w)) ≡ ending b
 closed_next w b = ap (closing_next (length w) b) (slice_get_past w (length w) (omega arith))
 
 ending_spaced : (b : ℕ) → is_space b ≡ true → ending b ≡ go mode.Closed

@@ -1,4 +1,5 @@
 pub mod Accepted
 pub mod Bytes
 pub mod Depth
+pub mod Finishes
 pub mod Followed

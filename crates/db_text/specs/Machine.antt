@@ -15,7 +15,8 @@ use Rattle.db_text.specs.declared.mode.Place.TheVariants as place
 use Rattle.db_text.specs.declared.node.Attribute.{Attribute}
 use Rattle.db_text.specs.declared.node.Node.{Node}
 use Rattle.db_text.specs.declared.notes.Notes.{Notes}
-use Rattle.db_text.specs.declared.parts.Frame.{Frame}
+use Rattle.db_text.specs.declared.frame.Frame.{Frame}
+use Rattle.db_text.specs.declared.parts.Parts.{Parts}
 use Rattle.db_text.specs.Text.{Placed, is_space, is_letter, is_name_byte, is_declared, is_char, as_space, entity_text, character}
 use Rattle.db_text.specs.Tree.{attribute_of, element_of, earlier}
 
@@ -28,13 +29,6 @@ notes names seen deep = record { names = names; seen = seen; deep = deep }
 
 abbrev pub frame : ℕ → List Attribute → List Node → Frame
 frame line attributes children = record { line = line; attributes = attributes; children = children }
-
--- the parts of elements that were read; a word and a value are those of an attribute that is being read
-pub record Parts : Type 0 where
-  pub frames : List Frame
-  pub word : List ℕ
-  pub value : List ℕ
-  pub top : Option Node
 
 abbrev pub parts : List Frame → List ℕ → List ℕ → Option Node → Parts
 parts frames word value top = record { frames = frames; word = word; value = value; top = top }

@@ -3,6 +3,8 @@
 #![tactic(auto)]
 
 mod fail;
+mod frame;
+mod frames;
 mod limits;
 mod mode;
 mod names;

@@ -1,11 +1,15 @@
-use crate::node::{Attribute, Node};
-use sqlite_items::Items;
-use std::marker::Model;
+use crate::frames::Frames;
+use crate::node::Node;
+use db_model::Sequence;
 
-/// An element that is open: what was read of it but its name.
+/// The parts of elements that were read.
 #[derive(Drop)]
-pub struct Frame {
-    pub line: u32,
-    pub attributes: Items<Attribute>,
-    pub children: Items<Node>,
+pub struct Parts {
+    pub frames: Frames,
+    /// The name of an attribute that is being read.
+    pub word: Sequence<u8>,
+    /// The value of an attribute that is being read.
+    pub value: Sequence<u8>,
+    /// The top element, once it is complete.
+    pub top: Option<Node>,
 }
