@@ -3,3 +3,4 @@ pub mod Bytes
 pub mod Depth
 pub mod Finishes
 pub mod Followed
+pub mod Outcomes

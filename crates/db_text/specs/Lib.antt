@@ -1,5 +1,8 @@
+pub mod Answer
 pub mod Grammar
+pub mod Laws
 pub mod Machine
+pub mod Outcome
 pub mod Refusal
 pub mod Runs
 pub mod Text

@@ -41,4 +41,4 @@ pub record IsTooDeep (bytes : List ℕ) (line : ℕ) : Type 0 where
 pub data IsRefused (bytes : List ℕ) (line code : ℕ) : Type 0 where
   too_long : MOST_TEXT_BYTES < length bytes → line ≡ 1 → code ≡ 3 → IsRefused bytes line code
   faulty : length bytes ≤ MOST_TEXT_BYTES → IsFaulty bytes line code → IsRefused bytes line code
-  deep : length bytes ≤ MOST_TEXT_BYTES → IsTooDeep bytes line → code ≡ 4 → IsRefused bytes line code
+  too_deep_within : length bytes ≤ MOST_TEXT_BYTES → IsTooDeep bytes line → code ≡ 4 → IsRefused bytes line code
