@@ -1,0 +1,18 @@
+//! The text of a database as elements. `read_elements` gives the elements that a text spells by the grammar, or
+//! exactly the line and the code of the text's first fault.
+#![tactic(auto)]
+
+mod fail;
+mod frame;
+mod frames;
+mod limits;
+mod mode;
+mod names;
+mod node;
+mod notes;
+mod parts;
+
+pub use fail::TextFail;
+pub use limits::{MOST_ELEMENT_DEPTH, MOST_TEXT_BYTES};
+pub use mode::{Act, Entity, Fixed, Mode, Move, Place};
+pub use node::{Attribute, AttributeList, Node, NodeList};
