@@ -1,5 +1,5 @@
 -- What fits stays so: a question that fits leaves a session that fits, and the row of its hit fits.
-use Rattle.std.specs.Prelude.{◌≡◌, ℕ, zero, suc, ◌<◌, ◌≤◌, ◌+◌, ◌*◌, Bool, true, false, not, ◌&&◌, if◌then◌else◌, nat_lt, nat_le, ◌==◌, List, [], ◌∷◌, ◌++◌, map, length, find, slice_get, slice_set, bit_and, is_some, Option, Some, None}
+use Rattle.std.specs.Prelude.{◌≡◌, ℕ, zero, suc, ◌<◌, ◌≤◌, Bool, true, false, not, ◌&&◌, if◌then◌else◌, nat_lt, nat_le, ◌==◌, List, [], ◌∷◌, ◌++◌, map, length, find, slice_get, slice_set, bit_and, is_some, Option, Some, None}
 use Rattle.std.proofs.Common.{refl, sym, ap, subst, ◌∙◌, arith}
 use Rattle.std.specs.List.{list_any, list_all}
 use Rattle.std.specs.Option.{option_eq}
@@ -13,7 +13,7 @@ use Rattle.db_model.specs.declared.entry.Entry.{Entry}
 use Rattle.db_model.specs.declared.entry.NewEntry.{NewEntry}
 use Rattle.db_model.specs.declared.entry.Validity.{Validity}
 use Rattle.db_model.specs.declared.entry.Validity.TheVariants.{Forever, MaxTime, UpdateOnHit, AddOnHit}
-use Rattle.db_model.specs.declared.limits.TheConstants.{GREATEST_NUMBER, DEADLINE_END, STAMP_END, SECOND}
+use Rattle.db_model.specs.declared.limits.TheConstants.{GREATEST_NUMBER, DEADLINE_END, STAMP_END}
 use Rattle.db_model.specs.declared.question.Answer.{Answer}
 use Rattle.db_model.specs.declared.question.Answer.TheVariants.{Miss, Hit, Done}
 use Rattle.db_model.specs.declared.question.Question.TheVariants.{Look, Add}

@@ -20,7 +20,7 @@ use Rattle.db_model.specs.declared.tree.Node.{Node}
 use Rattle.db_model.specs.declared.tree.Proto.{Proto}
 use Rattle.db_model.specs.Chain.{before_in, after_in, elements_of, protocol_run, entered, is_at_end, onward, follow, chain}
 use Rattle.db_model.specs.Decoding.{start, payload, decoding, dec}
-use Rattle.db_model.specs.Elements.{Part, each, parts, block_of, included, list_within, list}
+use Rattle.db_model.specs.Elements.{parts, block_of, included, list_within, list}
 use Rattle.db_model.specs.Fitting.{session_fits, log_fits}
 use Rattle.db_model.specs.Forms.{if_there, is_text}
 use Rattle.db_model.specs.Laws.{InTime}
@@ -31,13 +31,13 @@ use Rattle.db_model.specs.Names.{Text, startproto, protocol_at}
 use Rattle.db_model.specs.Numbering.{Counts, plus, a_block, none, counts_in, elements_in, fields_in, blocks_in, field_names, BlockAt, block_from, block_at}
 use Rattle.db_model.specs.Objection.{IsChecked}
 use Rattle.db_model.specs.Proper.{Proper, Leaves, TakesFrom, Any, AnyEnd, left_in_frame, PlaysProper}
-use Rattle.db_model.specs.Questions.{Gives, and_then, Step, play}
-use Rattle.db_model.specs.Runs.{Run, next}
+use Rattle.db_model.specs.Questions.{Gives, Step, play}
+use Rattle.db_model.specs.Runs.{Run}
 use Rattle.db_model.specs.Serial.{decoded, state}
 use Rattle.db_model.specs.Session.{Session}
 use Rattle.db_model.specs.Shape.{ListKind, FieldList, CodeList, EncapList, stands, is_list, is_list_of, code_is_shaped, block_is_shaped, format_is_shaped, protocol_is_shaped, is_shaped, texts_are_shaped, variable_is_shaped, table_is_shaped, template_is_shaped, sections_are_shaped, sum_is_shaped}
 use Rattle.db_model.specs.TypeFaults.{own_47, fault_47}
-use Rattle.db_model.specs.Typing.{is_among, is_protocol}
+use Rattle.db_model.specs.Typing.{is_protocol}
 use Rattle.db_model.proofs.Accepted.{append_front, append_back, no_faults}
 use Rattle.db_model.proofs.Fitted.{and_first, and_second, after_fits}
 use Rattle.db_model.proofs.Play.{session_after}

@@ -1,9 +1,9 @@
 -- Runs that ask properly: how they are put together, and that each element of a checked database is one.
 use Rattle.std.specs.Prelude.{◌≡◌, ℕ, zero, suc, ◌+◌, ◌-◌, ◌<◌, Bool, true, false, not, ◌||◌, ◌&&◌, if◌then◌else◌, nat_lt, nat_le, ◌==◌, List, [], ◌∷◌, ◌++◌, map, length, replicate, slice_get, is_some, unwrap_or, Option, Some, None, Result, Ok, Err}
-use Rattle.std.proofs.Common.{refl, sym, ap, subst, ◌∙◌, arith, append_assoc, append-nil}
+use Rattle.std.proofs.Common.{refl, sym, subst, ◌∙◌, arith, append_assoc, append-nil}
 use Rattle.std.proofs.lemmas.Bool.Decides.{Decides-eqb, Decides-ltb}
 use Rattle.std.proofs.lemmas.List.{length-map, length-replicate}
-use Rattle.std.specs.List.{list_any, list_all}
+use Rattle.std.specs.List.{list_any}
 use Rattle.db_model.specs.declared.database.ColumnDecl.{ColumnDecl}
 use Rattle.db_model.specs.declared.database.Database.{Database}
 use Rattle.db_model.specs.declared.database.KeyDecl.{KeyDecl}
@@ -20,7 +20,6 @@ use Rattle.db_model.specs.declared.element.UpdateKey.{UpdateKey}
 use Rattle.db_model.specs.declared.element.UpdateValue.{UpdateValue}
 use Rattle.db_model.specs.declared.entry.NewEntry.{NewEntry}
 use Rattle.db_model.specs.declared.entry.Validity.{Validity}
-use Rattle.db_model.specs.declared.env.Frame.{Frame}
 use Rattle.db_model.specs.declared.env.Way.{Way}
 use Rattle.db_model.specs.declared.env.Way.TheVariants.{Next, Break, Continue, Chose, Stop}
 use Rattle.db_model.specs.declared.expression.Expr.{Expr}
@@ -34,8 +33,8 @@ use Rattle.db_model.specs.declared.tree.Reason.TheVariants as reason
 use Rattle.db_model.specs.declared.value.Ty.{Ty}
 use Rattle.db_model.specs.declared.value.Ty.TheVariants as ty
 use Rattle.db_model.specs.declared.value.Value.{Value}
-use Rattle.db_model.specs.Elements.{filled, masks_of, fits_column, row_from, holds, Part, total, each, or_next, choose, control_by, number, field, set_variable, added, update, loop_by, does, means, parts}
-use Rattle.db_model.specs.Expression.{Eval, give, result, when, ◌>>=◌, taken_as, declared_or_first, val, num, proto, is_so, keys_from, key_sizes, asks}
+use Rattle.db_model.specs.Elements.{filled, masks_of, fits_column, row_from, holds, Part, total, each, or_next, choose, control_by, number, field, set_variable, added, update, loop_by, does, means}
+use Rattle.db_model.specs.Expression.{Eval, give, result, when, ◌>>=◌, taken_as, val, num, proto, is_so, keys_from, key_sizes}
 use Rattle.db_model.specs.Extent.{extent, kind_of}
 use Rattle.db_model.specs.Fitting.{keys_fit, masks_fit, is_of_type, row_fits, is_declared, row_declared, add_fits, add_fits_in, question_fits}
 use Rattle.db_model.specs.Folds.{CaseOf, BranchOf, fold_row, fold_cases, fold_held, noted_row, noted_cases, noted_held}
@@ -53,7 +52,7 @@ use Rattle.db_model.specs.Typing.{has_keys, has_wrong_arity}
 use Rattle.db_model.specs.Table.{KeyList}
 use Rattle.db_model.proofs.Accepted.{append_front, append_back}
 use Rattle.db_model.proofs.Fitted.{and_first, and_second, and_both}
-use Rattle.db_model.proofs.Proper.{proper_then, step_then, OnValue, Evaluates, eval_then, eval_any, given, asked, AllEvaluate, keys_evaluate, evaluates}
+use Rattle.db_model.proofs.Proper.{proper_then, step_then, OnValue, Evaluates, eval_then, eval_any, asked, AllEvaluate, keys_evaluate, evaluates}
 
 module _ (db : Database) where
   abbrev pub IsProper : Run → Type 0

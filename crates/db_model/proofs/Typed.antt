@@ -1,7 +1,7 @@
 -- The value of a typed expression has its type, and the state after it fits.
-use Rattle.std.specs.Prelude.{◌≡◌, ℕ, zero, suc, ◌<◌, Bool, true, false, not, ◌||◌, ◌&&◌, if◌then◌else◌, nat_lt, nat_le, ◌==◌, List, [], ◌∷◌, ◌++◌, map, length, slice_get, slice_set, bytes_eq, Option, Some, None, Result, Ok, Err}
-use Rattle.std.proofs.Common.{refl, sym, ap, subst, ◌∙◌, arith}
-use Rattle.std.specs.List.{list_any, list_all}
+use Rattle.std.specs.Prelude.{◌≡◌, ℕ, zero, suc, ◌<◌, Bool, true, false, not, ◌||◌, if◌then◌else◌, nat_lt, ◌==◌, List, [], ◌∷◌, ◌++◌, map, length, slice_get, slice_set, bytes_eq, Option, Some, None, Result, Ok, Err}
+use Rattle.std.proofs.Common.{refl, ap, subst, ◌∙◌, arith}
+use Rattle.std.specs.List.{list_any}
 use Rattle.std.proofs.lemmas.Bool.Decides.{Decides-ltb}
 use Rattle.std.proofs.lemmas.List.{length-map}
 use Rattle.db_model.specs.declared.database.ColumnDecl.{ColumnDecl}
@@ -14,12 +14,11 @@ use Rattle.db_model.specs.declared.expression.Expr as expr
 use Rattle.db_model.specs.declared.expression.Expr.{Expr, Row_of-Expr, end_of-Expr, more_of-Expr}
 use Rattle.db_model.specs.declared.expression.Operator.{Operator}
 use Rattle.db_model.specs.declared.expression.Operator.TheVariants as op
-use Rattle.db_model.specs.declared.expression.TypeFault.{TypeFault}
 use Rattle.db_model.specs.declared.expression.TypeFault.TheVariants as fault
 use Rattle.db_model.specs.declared.question.Answer.{Answer}
 use Rattle.db_model.specs.declared.question.Answer.TheVariants.{Miss, Hit, Done}
 use Rattle.db_model.specs.declared.question.Question.{Question}
-use Rattle.db_model.specs.declared.question.Question.TheVariants.{Look, Add}
+use Rattle.db_model.specs.declared.question.Question.TheVariants.{Look}
 use Rattle.db_model.specs.declared.tree.Reason.{Reason}
 use Rattle.db_model.specs.declared.tree.Reason.TheVariants as reason
 use Rattle.db_model.specs.declared.value.Ty.{Ty}
@@ -32,10 +31,10 @@ use Rattle.db_model.specs.Fitting.{is_of_type, row_fits, is_declared, has_type, 
 use Rattle.db_model.specs.Folds.{fold_expr, fold_exprs}
 use Rattle.db_model.specs.Laws.{TypedValues, TakenAsItself}
 use Rattle.db_model.specs.Names.{Text, place, protocol_at, variable_at, table_at, column_at}
-use Rattle.db_model.specs.Questions.{Asks, Gives, Asking, and_then, Step, ◌then◌, on_ok}
+use Rattle.db_model.specs.Questions.{Asks, Gives, Asking, and_then, ◌then◌, on_ok}
 use Rattle.db_model.specs.Special.{Special, Packet, PacketLength, CurrentOffset, ProtoOffset, LinkType, special}
 use Rattle.db_model.specs.Typed.{variables_fit, last_hit_fits, hits_fit, env_fits, Gets, IsTyped}
-use Rattle.db_model.specs.Typing.{is_among, is_protocol, undeclared_step, has_undeclared, has_wrong_arity, typed_if, is_of, alike, operator_ty, special_ty, declared_ty, column_ty, columns_in, variable_ty, ty_step, ty_of, or_mistyped, type_of}
+use Rattle.db_model.specs.Typing.{is_among, is_protocol, has_undeclared, has_wrong_arity, typed_if, operator_ty, declared_ty, column_ty, columns_in, variable_ty, ty_of, or_mistyped, type_of}
 use Rattle.db_model.proofs.Fitted.{and_both, and_first, and_second, two}
 use Rattle.db_model.proofs.Proper.{OnValue}
 
