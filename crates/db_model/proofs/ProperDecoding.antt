@@ -47,12 +47,12 @@ use Rattle.db_model.proofs.ProperRuns.{IsProper, proper_leave, proper_block, All
 -- ---- what stands where it may
 
 -- an element that may stand in a list of some kind
-abbrev Stands_somewhere : Element → Type 0
-Stands_somewhere x = (kind : ListKind) × (looped : Bool) × (stands x kind looped ≡ true)
+abbrev StandsSomewhere : Element → Type 0
+StandsSomewhere x = (kind : ListKind) × (looped : Bool) × (stands x kind looped ≡ true)
 
 abbrev AllStand : List Element → Type 0
 AllStand [] = Unit {0}
-AllStand (x ∷ xs) = Stands_somewhere x × AllStand xs
+AllStand (x ∷ xs) = StandsSomewhere x × AllStand xs
 
 stand_join : (xs ys : List Element) → AllStand xs → AllStand ys → AllStand (xs ++ ys)
 stand_join [] ys h k = k

@@ -15,7 +15,7 @@ use Rattle.db_model.specs.declared.value.Ty.{Ty}
 use Rattle.db_model.specs.declared.value.Value.{Value}
 use Rattle.db_model.specs.BlockFaults.{firsts, includes_itself, Reaches, protocol_45}
 use Rattle.db_model.specs.Chain.{elements_of, chain}
-use Rattle.db_model.specs.Decoding.{decoding, dec}
+use Rattle.db_model.specs.Decoding.{start_env, decoding, dec}
 use Rattle.db_model.specs.Elements.{block_of, included, list}
 use Rattle.db_model.specs.Expression.{val, taken_as}
 use Rattle.db_model.specs.Fitting.{look_fits, add_fits, question_fits, log_fits, table_fits, session_fits, has_type, hit_fits, answer_fits, table_of}
@@ -129,6 +129,10 @@ pub record SerialFits : Type 0 where
 -- the value of a typed expression has its type, whatever answers that fit it gets, from a state that fits; and the state after it fits
 abbrev pub TypedValues : Type 0
 TypedValues = (db : Database) (fields : List Text) (e : Expr) (ty : Ty) (z : Env) → type_of db fields e ≡ Ok ty → env_fits db z ≡ true → Gets db (λ r. IsTyped db ty r.0 × (env_fits db r.1 ≡ true)) (val db fields e z)
+
+-- the state with which a decoding begins fits a checked database
+abbrev pub StartFits : Type 0
+StartFits = (db : Database) (p : Packet) → IsChecked db → env_fits db (start_env db p) ≡ true
 
 -- a value that has a type is itself where it is taken as one of that type, as the data values of an update are
 abbrev pub TakenAsItself : Type 0
