@@ -16,11 +16,12 @@ use Rattle.db_model.specs.declared.entry.Validity.TheVariants.{Forever, MaxTime,
 use Rattle.db_model.specs.declared.limits.TheConstants.{GREATEST_NUMBER, DEADLINE_END, STAMP_END}
 use Rattle.db_model.specs.declared.question.Answer.{Answer}
 use Rattle.db_model.specs.declared.question.Answer.TheVariants.{Miss, Hit, Done}
+use Rattle.db_model.specs.declared.question.Question.{Question}
 use Rattle.db_model.specs.declared.question.Question.TheVariants.{Look, Add}
 use Rattle.db_model.specs.Expression.{key_sizes}
-use Rattle.db_model.specs.Fitting.{keys_fit, masks_fit, row_fits, row_declared, look_fits, add_fits, look_fits_in, add_fits_in, question_fits, log_fits, deadline_fits, entry_fits, exact_fits, masked_fits, table_fits, rows_declared, table_declared, tables_fit, session_fits, hit_fits, answer_fits}
+use Rattle.db_model.specs.Fitting.{keys_fit, masks_fit, row_fits, row_declared, look_fits, add_fits, look_fits_in, add_fits_in, question_fits, log_fits, deadline_fits, entry_fits, exact_fits, masked_fits, table_fits, rows_declared, table_declared, tables_fit, session_fits, hit_fits, answer_fits, table_of}
 use Rattle.db_model.specs.Forms.{is_number}
-use Rattle.db_model.specs.Laws.{TableFits, FitsStay, AfterFits}
+use Rattle.db_model.specs.Laws.{TableFits, TableOfQuestion, FitsStay, AfterFits}
 use Rattle.db_model.specs.Session.{Session, declared, look_in, add_in, ask}
 use Rattle.db_model.specs.Table.{Parts, KeyList, empty, same_keys, same_place, masked, masked_by, live, matches, replace, soonest, evict, put_in_full, put_in, put_by, put, after_seconds, first_deadline, entry_at, add, if_live, first_of, found, renewed_by, answered, look}
 use Rattle.db_model.proofs.Kept.{keys_decide, put_in_within}
@@ -392,6 +393,33 @@ module _ (db : Database) where
       and_both (both d empty) (tables_fit db ds (map (λ c. empty) ds))
       (and_both (table_fits d empty) (table_declared db empty) (from_table_facts d empty (record { exact_room = omega arith; masked_room = omega arith; exact = refl; masked = refl })) refl)
       (empty_fits ds)
+
+get_below : {A : Type 0} (xs : List A) (n : ℕ) (x : A) → slice_get xs n ≡ Some x → n < length xs
+get_below [] n x e = (cc)
+get_below (y ∷ xs) zero x e = omega arith
+get_below (y ∷ xs) (suc n) x e = omega (arith, get_below xs n x e)
+
+look_below : (db : Database) (n : ℕ) (keys : KeyList) (o : Option TableDecl) → slice_get db.tables n ≡ o → look_fits_in o keys ≡ true → n < length db.tables
+look_below db n keys None e h = (cc)
+look_below db n keys (Some d) e h = get_below db.tables n d e
+
+add_below : (db : Database) (n : ℕ) (a : NewEntry) (o : Option TableDecl) → slice_get db.tables n ≡ o → add_fits_in db o a ≡ true → n < length db.tables
+add_below db n a None e h = (cc)
+add_below db n a (Some d) e h = get_below db.tables n d e
+
+number_below : (db : Database) (q : Question) → question_fits db q ≡ true → table_of q < length db.tables
+unfolding question_fits
+number_below db (Look n keys renew) h = look_below db n keys (slice_get db.tables n) refl h
+number_below db (Add n a) h = add_below db n a (slice_get db.tables n) refl h
+
+pub table_of_question : TableOfQuestion
+unfolding question_fits session_fits
+table_of_question = record {
+  number = number_below;
+  looked = λ db n keys renew d e h. subst (λ o. look_fits_in o keys ≡ true) e h;
+  added = λ db n a d e h. and_first (add_fits d a) (row_declared db a.row) (subst (λ o. add_fits_in db o a ≡ true) e h);
+  held = λ db s n d t p q h. (both_at db db.tables s n d t h p q).0;
+}
 
 pub declared_fits : (db : Database) → session_fits db (declared db) ≡ true
 unfolding session_fits

@@ -11,6 +11,7 @@ use Rattle.db_model.specs.declared.expression.Expr.{Expr}
 use Rattle.db_model.specs.declared.limits.TheConstants.{MOST_NESTED, MOST_QUESTIONS, STAMP_END}
 use Rattle.db_model.specs.declared.packet.Packet.{Packet}
 use Rattle.db_model.specs.declared.question.Question.{Question}
+use Rattle.db_model.specs.declared.question.Question.TheVariants.{Look, Add}
 use Rattle.db_model.specs.declared.value.Ty.{Ty}
 use Rattle.db_model.specs.declared.value.Value.{Value}
 use Rattle.db_model.specs.BlockFaults.{firsts, includes_itself, Reaches, protocol_45}
@@ -84,6 +85,13 @@ pub record TableKeeps : Type 0 where
 pub record TableFits : Type 0 where
   pub added : (d : TableDecl) (t : Parts) (n : NewEntry) (now : ℕ) → table_fits d t ≡ true → add_fits d n ≡ true → now < STAMP_END → table_fits d (add d t n now) ≡ true
   pub looked : (d : TableDecl) (t : Parts) (keys : KeyList) (renew : Bool) (now : ℕ) → table_fits d t ≡ true → look_fits d keys ≡ true → now < STAMP_END → (hit_fits d (look d t keys renew now).0 ≡ true) × (table_fits d (look d t keys renew now).1 ≡ true)
+
+-- what fits a database fits the table that is asked: its number is that of a declared one, what it is asked fits its declaration, and so does what it holds in a session that fits
+pub record TableOfQuestion : Type 0 where
+  pub number : (db : Database) (q : Question) → question_fits db q ≡ true → table_of q < length db.tables
+  pub looked : (db : Database) (n : ℕ) (keys : KeyList) (renew : Bool) (d : TableDecl) → slice_get db.tables n ≡ Some d → question_fits db (Look n keys renew) ≡ true → look_fits d keys ≡ true
+  pub added : (db : Database) (n : ℕ) (e : NewEntry) (d : TableDecl) → slice_get db.tables n ≡ Some d → question_fits db (Add n e) ≡ true → add_fits d e ≡ true
+  pub held : (db : Database) (s : Session) (n : ℕ) (d : TableDecl) (t : Parts) → slice_get db.tables n ≡ Some d → slice_get s n ≡ Some t → session_fits db s ≡ true → table_fits d t ≡ true
 
 -- a question that fits leaves a session that fits, and the row of its hit fits
 abbrev pub FitsStay : Type 0

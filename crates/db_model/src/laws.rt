@@ -1,6 +1,6 @@
 //! The laws of the definitions, each the contract of a function that does nothing.
 
-ghost use Rattle.db_model.specs.Laws.{UnchangedDecoding, UnchangedComputation, DiffersNowhere, AgreesInParts, SessionOfDecoding, SerialFrom, SerialFront, IncludesEnd, CyclesFound, PutKeeps, TableKeeps, TableFits, FitsStay, DeclaredFits, AsksProperly, ProperComputations, AfterFits, DecodingFits, SerialFits, TypedValues, StartFits, TakenAsItself, CarriesState};
+ghost use Rattle.db_model.specs.Laws.{UnchangedDecoding, UnchangedComputation, DiffersNowhere, AgreesInParts, SessionOfDecoding, SerialFrom, SerialFront, IncludesEnd, CyclesFound, PutKeeps, TableKeeps, TableFits, TableOfQuestion, FitsStay, DeclaredFits, AsksProperly, ProperComputations, AfterFits, DecodingFits, SerialFits, TypedValues, StartFits, TakenAsItself, CarriesState};
 
 /// Where the log of a decoding agrees with another session, decoding from there gives the same tree and log.
 pub fn unchanged_decoding()
@@ -61,6 +61,11 @@ pub fn table_keeps()
 /// What a table holds goes on to fit its declaration, and so does the row of a hit.
 pub fn table_fits()
     ensures { TableFits }
+{}
+
+/// What fits a database fits the table that is asked.
+pub fn table_of_question()
+    ensures { TableOfQuestion }
 {}
 
 /// A question that fits leaves a session that fits, and the row of its hit fits.
