@@ -23,7 +23,7 @@ use Rattle.db_model.specs.Fitting.{keys_fit, masks_fit, row_fits, row_declared, 
 use Rattle.db_model.specs.Forms.{is_number}
 use Rattle.db_model.specs.Laws.{TableFits, TableOfQuestion, FitsStay, AfterFits}
 use Rattle.db_model.specs.Session.{Session, declared, look_in, add_in, ask}
-use Rattle.db_model.specs.Table.{Parts, KeyList, empty, same_keys, same_place, masked, masked_by, live, matches, replace, soonest, evict, put_in_full, put_in, put_by, put, after_seconds, first_deadline, entry_at, add, if_live, first_of, found, renewed_by, answered, look}
+use Rattle.db_model.specs.Table.{Parts, KeyList, empty, same_keys, same_place, masked, masked_by, live, matches, replace, soonest, evict, put_in_full, put_in, put_by, put, after_seconds, first_deadline, entry_at, add, if_live, first_of, matching_entry, renewed_by, answered, look}
 use Rattle.db_model.proofs.Kept.{keys_decide, put_in_within}
 
 pub and_first : (a b : Bool) → (a && b) ≡ true → a ≡ true
@@ -86,7 +86,7 @@ module _ (P : Entry → Bool) where
       pick false ih g = ih g
 
 -- what a look-up finds is found in one of the two parts
-found_in : {Q : Type 0} (t : Parts) (keys : KeyList) (now : ℕ) (e : Entry) → ((i : Entry → Bool) → find i t.exact ≡ Some e → Q) → ((i : Entry → Bool) → find i t.masked ≡ Some e → Q) → found t keys now ≡ Some e → Q
+found_in : {Q : Type 0} (t : Parts) (keys : KeyList) (now : ℕ) (e : Entry) → ((i : Entry → Bool) → find i t.exact ≡ Some e → Q) → ((i : Entry → Bool) → find i t.masked ≡ Some e → Q) → matching_entry t keys now ≡ Some e → Q
 found_in {Q} t keys now e h k g = by (find (λ d. same_keys keys d.keys) t.exact) refl g
   where
     by : (o : Option Entry) → find (λ d. same_keys keys d.keys) t.exact ≡ o → first_of (if_live now o) (find (λ d. live d now && matches d keys) t.masked) ≡ Some e → Q
@@ -278,12 +278,12 @@ module _ (d : TableDecl) where
 
   looked_fits : (t : Parts) (keys : KeyList) (renew : Bool) (now : ℕ) → table_fits d t ≡ true → look_fits d keys ≡ true → now < STAMP_END → (hit_fits d (look d t keys renew now).0 ≡ true) × (table_fits d (look d t keys renew now).1 ≡ true)
   unfolding look look_fits
-  looked_fits t keys renew now h g s = by (found t keys now) refl renew
+  looked_fits t keys renew now h g s = by (matching_entry t keys now) refl renew
     where
-      there : (e : Entry) → found t keys now ≡ Some e → Fits e
+      there : (e : Entry) → matching_entry t keys now ≡ Some e → Fits e
       there e p = let f = table_facts t h in found_in t keys now e (λ i k. from_exact e (all_find (exact_fits d) i t.exact e f.exact k)) (λ i k. from_masked e (all_find (masked_fits d) i t.masked e f.masked k)) p
 
-      by : (o : Option Entry) → found t keys now ≡ o → (r : Bool) → (hit_fits d (answered d t keys r now o).0 ≡ true) × (table_fits d (answered d t keys r now o).1 ≡ true)
+      by : (o : Option Entry) → matching_entry t keys now ≡ o → (r : Bool) → (hit_fits d (answered d t keys r now o).0 ≡ true) × (table_fits d (answered d t keys r now o).1 ≡ true)
       by None p r = (refl, h)
       by (Some e) p true = ((there e p).facts.row, from_table_facts (renewed_by e.validity d t keys now e) (renewed_fits e.validity t keys now e (table_facts t h) g refl (there e p) s))
       by (Some e) p false = ((there e p).facts.row, h)
@@ -318,12 +318,12 @@ module _ (db : Database) where
 
   look_declared : (d : TableDecl) (t : Parts) (keys : KeyList) (renew : Bool) (now : ℕ) → table_declared db t ≡ true → row_known (look d t keys renew now).0 × (table_declared db (look d t keys renew now).1 ≡ true)
   unfolding look
-  look_declared d t keys renew now h = by (found t keys now) refl renew
+  look_declared d t keys renew now h = by (matching_entry t keys now) refl renew
     where
-      there : (e : Entry) → found t keys now ≡ Some e → knows e ≡ true
+      there : (e : Entry) → matching_entry t keys now ≡ Some e → knows e ≡ true
       there e p = let a = two (rows_declared db t.exact) (rows_declared db t.masked) h in found_in t keys now e (λ i k. all_find knows i t.exact e a.0 k) (λ i k. all_find knows i t.masked e a.1 k) p
 
-      by : (o : Option Entry) → found t keys now ≡ o → (r : Bool) → row_known (answered d t keys r now o).0 × (table_declared db (answered d t keys r now o).1 ≡ true)
+      by : (o : Option Entry) → matching_entry t keys now ≡ o → (r : Bool) → row_known (answered d t keys r now o).0 × (table_declared db (answered d t keys r now o).1 ≡ true)
       by None p r = (tt, h)
       by (Some e) p true = (there e p, renewed_declared e.validity d t keys now e h (there e p))
       by (Some e) p false = (there e p, h)

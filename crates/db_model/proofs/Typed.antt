@@ -28,7 +28,7 @@ use Rattle.db_model.specs.declared.value.Ty.{Ty}
 use Rattle.db_model.specs.declared.value.Ty.TheVariants as ty
 use Rattle.db_model.specs.declared.value.Value.{Value}
 use Rattle.db_model.specs.declared.value.Value.TheVariants as value
-use Rattle.db_model.specs.Expression.{Eval, give, fail, result, when, ◌>>=◌, or_fail, answer_at, asks, found, keys_from, key_sizes, columns_of, row_hit, look_up, special_value, variable_by, value_or_zero, last_of, val, num, buf, proto, is_so, truth, in_range, binary, slice, to_number, in_bytes, declared_or_first, taken_as}
+use Rattle.db_model.specs.Expression.{Eval, give, fail, result, when, ◌>>=◌, or_fail, answer_at, asks, hit_as_number, keys_from, key_sizes, columns_of, row_hit, look_up, special_value, variable_by, value_or_zero, last_of, val, num, buf, proto, is_so, truth, in_range, binary, slice, to_number, in_bytes, declared_or_first, taken_as}
 use Rattle.db_model.specs.Expression as meaning
 use Rattle.db_model.specs.Fitting.{is_of_type, row_fits, is_declared, has_type, row_declared, answer_fits, table_of}
 use Rattle.db_model.specs.Folds.{fold_expr, fold_exprs}
@@ -152,7 +152,7 @@ module _ (db : Database) where
   abbrev IsNum : Value → Type 0
   IsNum v = has_type db ty.Num v ≡ true
 
-  fit_found : (n : ℕ) (d : TableDecl) (a : Answer) → slice_get db.tables n ≡ Some d → answer_fits db (Some d) a ≡ true → KeepsFit IsNum (found n a)
+  fit_found : (n : ℕ) (d : TableDecl) (a : Answer) → slice_get db.tables n ≡ Some d → answer_fits db (Some d) a ≡ true → KeepsFit IsNum (hit_as_number n a)
   unfolding env_fits
   fit_found n d Miss e h z k = (refl, k)
   fit_found n d (Hit row) e h z k =
@@ -163,8 +163,8 @@ module _ (db : Database) where
   fit_look : (d : Option TableDecl) (n : ℕ) (renew : Bool) (ks : List (Eval Value)) → slice_get db.tables n ≡ d → AllFit ks → KeepsFit IsNum (look_up d n renew ks)
   fit_look None n renew ks e h z k = (refl, k)
   fit_look (Some d) n renew ks e h z k =
-      fit_any IsNum (keys_from [] (key_sizes (Some d)) ks) (λ keys. asks (Look n keys renew) >>= found n) (fit_keys (key_sizes (Some d)) ks [] h)
-      (λ keys. fit_then (Answered (Look n keys renew)) IsNum (asks (Look n keys renew)) (found n) (fit_asks (Look n keys renew)) (λ a m. fit_found n d a e (subst (λ x. answer_fits db x a ≡ true) e m))) z k
+      fit_any IsNum (keys_from [] (key_sizes (Some d)) ks) (λ keys. asks (Look n keys renew) >>= hit_as_number n) (fit_keys (key_sizes (Some d)) ks [] h)
+      (λ keys. fit_then (Answered (Look n keys renew)) IsNum (asks (Look n keys renew)) (hit_as_number n) (fit_asks (Look n keys renew)) (λ a m. fit_found n d a e (subst (λ x. answer_fits db x a ≡ true) e m))) z k
 
   -- ---- types
 

@@ -12,14 +12,14 @@ pub const MOST_BYTES: usize = 262_144;
 const MOST_SHORT: usize = 24;
 
 /// Few bytes lie in the value itself, more of them in memory of their own.
-#[derive(Debug, Drop)]
+#[derive(Drop)]
 enum Held {
     Short(ArrayVec<u8, MOST_SHORT>),
     Long(Vec<u8>),
 }
 
 /// At most `MOST_BYTES` bytes, seen as their list. A short value, of at most 24 bytes, takes no memory of its own.
-#[derive(Debug, Drop)]
+#[derive(Drop)]
 pub struct Bytes {
     held: Held,
 }
@@ -115,7 +115,7 @@ impl Bytes {
 }
 
 /// Bytes without a bound of their own, seen as their list.
-#[derive(Debug, Drop)]
+#[derive(Drop)]
 pub struct Bytes64 {
     bytes: Vec<u8>,
 }

@@ -14,7 +14,7 @@ pub type HitRows = Sequence<Option<Row>>;
 pub type FieldValues = Sequence<(u32, Bytes)>;
 
 /// The state of decoding that expressions see. Positions are in bytes from the packet's first byte.
-#[derive(Debug, Drop)]
+#[derive(Drop)]
 pub struct Env {
     pub packet: Packet,
     /// The position.
@@ -84,7 +84,7 @@ fn no_hits(alloc: Global, db: &Database) -> Result<HitRows, NoMemory>
 }
 
 /// The state of decoding that elements see.
-#[derive(Debug, Drop)]
+#[derive(Drop)]
 pub struct Frame {
     pub env: Env,
     /// The nodes that are left.
@@ -92,7 +92,7 @@ pub struct Frame {
 }
 
 /// How a list of elements ends.
-#[derive(Clone, Copy, Debug, PartialEq, Eq)]
+#[derive(Clone, Copy, PartialEq, Eq)]
 pub enum Way {
     /// At its end.
     Next,

@@ -5,7 +5,7 @@ use crate::{Bytes, Name};
 use sqlite_items::{Boxed, Items};
 
 /// The operators that evaluate both sides.
-#[derive(Clone, Copy, Debug, PartialEq, Eq)]
+#[derive(Clone, Copy, PartialEq, Eq)]
 pub enum Operator {
     Add,
     Sub,
@@ -23,7 +23,7 @@ pub enum Operator {
 }
 
 /// The variables that are not declared and that nothing sets.
-#[derive(Clone, Copy, Debug, PartialEq, Eq)]
+#[derive(Clone, Copy, PartialEq, Eq)]
 pub enum Special {
     /// `$packet`, the captured bytes.
     Packet,
@@ -67,7 +67,7 @@ impl Special {
 }
 
 /// An expression as it is written, parentheses aside.
-#[derive(Debug, Drop)]
+#[derive(Drop)]
 pub enum Expr {
     Number(u32),
     Text(Bytes),
@@ -117,7 +117,7 @@ pub enum Expr {
 }
 
 /// An expression that is one number, one text or one protocol.
-#[derive(Debug, Drop)]
+#[derive(Drop)]
 pub enum Literal {
     Number(u32),
     Text(Bytes),
@@ -125,7 +125,7 @@ pub enum Literal {
 }
 
 /// Why an expression has no type. A name that isn't declared comes first, then a wrong number of keys.
-#[derive(Clone, Copy, Debug, PartialEq, Eq)]
+#[derive(Clone, Copy, PartialEq, Eq)]
 pub enum TypeFault {
     /// It names something that isn't declared.
     Undeclared,

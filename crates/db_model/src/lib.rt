@@ -2,7 +2,8 @@
 //! expressions, elements and the chain of protocols do, the tree of a packet, and what a log says when it is
 //! asked again. Every layer's contracts are stated against these definitions (`specs/`). Contracts see each
 //! type as plain data (a list, a number or a record), so two values are equal where what they show is equal.
-//! `CheckedDb` is a database without any of the eight faults; `laws` has the theorems about the definitions.
+//! `CheckedDb` is a database whose elements stand where they may, without any of the eight faults; `laws` has the
+//! theorems about the definitions.
 #![tactic(auto)]
 
 mod bytes;
@@ -132,6 +133,3 @@ pub use value::Keys;
 pub use value::Row;
 pub use value::Ty;
 pub use value::Value;
-
-#[cfg(test)]
-mod tests;

@@ -17,7 +17,7 @@ const MORE_PROTOCOLS: u32 = 31;
 pub const PAYLOAD: u16 = 65_535;
 
 /// What the fields of a protocol come to.
-#[derive(Debug, Drop)]
+#[derive(Drop)]
 pub struct Went {
     pub nodes: Items<Node>,
     /// The position behind them.
@@ -29,7 +29,7 @@ pub struct Went {
 }
 
 /// The protocols of a packet, and the position behind them.
-#[derive(Debug, Drop)]
+#[derive(Drop)]
 pub struct Chain {
     pub protos: Items<Proto>,
     pub at: u32,

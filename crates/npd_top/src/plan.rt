@@ -6,7 +6,7 @@ use db_model::{NoMemory, Word};
 use std::alloc::Global;
 
 /// What the command words ask for: decode the capture `cap` by the database `db`, and write PDML to `pdml`.
-#[derive(Debug, Drop)]
+#[derive(Drop)]
 pub struct Plan {
     pub db: Word,
     pub cap: Word,

@@ -15,7 +15,7 @@ use std::alloc::Global;
 const HEAD: usize = 16;
 
 /// What stands where a record begins.
-#[derive(Debug, Drop)]
+#[derive(Drop)]
 pub enum Found {
     End,
     Broken,
