@@ -51,6 +51,7 @@ use Rattle.db_model.specs.TypeFaults.{masks_differ, other_length, other_columns,
 use Rattle.db_model.specs.Typing.{has_keys, has_wrong_arity}
 use Rattle.db_model.specs.Table.{KeyList}
 use Rattle.db_model.proofs.Accepted.{append_front, append_back}
+use Rattle.db_model.proofs.Includes.{line_none}
 use Rattle.db_model.proofs.Fitted.{and_first, and_second, and_both}
 use Rattle.db_model.proofs.Proper.{proper_then, step_then, OnValue, Evaluates, eval_then, eval_any, asked, AllEvaluate, keys_evaluate, evaluates}
 
@@ -307,10 +308,6 @@ module _ (db : Database) where
   choose_proper v [] other h k at = or_next_proper other k at
   choose_proper v (c ∷ cs) other h k at = proper_if (holds c v) (each c.body at) (choose v cs other (plus at (total c.body))) (each_proper c.body h.0 at) (choose_proper v cs other h.1 k (plus at (total c.body)))
 
-  pub line_false : (line : ℕ) (b : Bool) → at_line line b ≡ [] → b ≡ false
-  line_false line true e = (cc)
-  line_false line false e = refl
-
   -- the lines of fault 47 in parts
   abbrev lines_row : {m : _} → Row_of-Element m → Lines
   lines_row xs = joined (fold_row Lines (λ x. own_47 db x ++ inside x) xs)
@@ -350,7 +347,7 @@ module _ (db : Database) where
           let m = and_first (if_there is_number keep && if_there is_number hit) _ (and_second (is_name table) _ (and_second (not (is_encap_list kind)) _ k)) in
           let wrong = at_line line (update_misses (slice_get db.tables (table_at db table)) validity keep hit keys row) in
           let others = over (λ (w : UpdateKey). at_line w.line (has_wrong_arity db w.value)) keys ++ over (λ (v : UpdateValue). at_line v.line (has_wrong_arity db v.value)) row in
-          update_proper fields o table validity keep hit keys row (line_false line _ (append_front wrong others (append_front (wrong ++ others) [] h)))
+          update_proper fields o table validity keep hit keys row (line_none line _ (append_front wrong others (append_front (wrong ++ others) [] h)))
           (and_first (if_there is_number keep) (if_there is_number hit) m) (and_second (if_there is_number keep) (if_there is_number hit) m)
       element_proper (element.NextProto line e) kind looped h k at = proper_evaluated (val db fields e) (λ v. leave (Chose (proto v))) (evaluates db fields e) (λ v. proper_leave (Chose (proto v)))
 

@@ -45,6 +45,7 @@ use Rattle.db_model.specs.Special.{Special, Packet, PacketLength, CurrentOffset,
 use Rattle.db_model.specs.Typed.{variables_fit, last_hit_fits, hits_fit, env_fits, Gets, IsTyped}
 use Rattle.db_model.specs.Typing.{is_among, is_protocol, has_undeclared, has_wrong_arity, typed_if, operator_ty, declared_ty, column_ty, columns_in, variable_ty, ty_of, or_mistyped, type_of}
 use Rattle.db_model.proofs.Fitted.{and_both, and_first, and_second, two}
+use Rattle.db_model.proofs.Includes.{line_none}
 use Rattle.db_model.proofs.Proper.{OnValue}
 
 pub gets_then : {A B : Type 0} (db : Database) (P : A → Type 0) (Q : B → Type 0) (f : A → Asks B) → ((a : A) → P a → Gets db Q (f a)) → (x : Asks A) → Gets db P x → Gets db Q (and_then x f)
@@ -355,10 +356,6 @@ module _ (db : Database) where
   literal_typed ty.Proto (literal.Text b) h k = (cc)
   literal_typed ty.Proto (literal.Protocol name) h k = protocol_typed db [] name h
 
-  no_line : (line : ℕ) (b : Bool) → at_line line b ≡ [] → b ≡ false
-  no_line line true e = (cc)
-  no_line line false e = refl
-
   abbrev unknown : VarDecl → Lines
   unknown v = at_line v.line (literal_is_unknown db v.value)
 
@@ -369,7 +366,7 @@ module _ (db : Database) where
   first_variables [] h k = refl
   first_variables (d ∷ ds) h k =
       and_both (has_type db d.ty (literal db d.value)) (variables_fit db ds (map (λ v. literal db v.value) ds))
-      (literal_typed d.ty d.value (no_line d.line (literal_is_unknown db d.value) (append_front (unknown d) (over unknown ds) h)) (no_line d.line (literal_is_wrong db d.ty d.value) (append_front (wrong d) (over wrong ds) k)))
+      (literal_typed d.ty d.value (line_none d.line (literal_is_unknown db d.value) (append_front (unknown d) (over unknown ds) h)) (line_none d.line (literal_is_wrong db d.ty d.value) (append_front (wrong d) (over wrong ds) k)))
       (first_variables ds (append_back (unknown d) (over unknown ds) h) (append_back (wrong d) (over wrong ds) k))
 
   no_hits : (ds : List TableDecl) → hits_fit db ds (map (λ d. None) ds) ≡ true
