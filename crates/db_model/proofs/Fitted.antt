@@ -38,6 +38,10 @@ pub and_both : (a b : Bool) → a ≡ true → b ≡ true → (a && b) ≡ true
 and_both true b h k = k
 and_both false b h k = h
 
+pub not_false : (a : Bool) → not a ≡ false → a ≡ true
+not_false true h = refl
+not_false false h = (cc)
+
 -- both of two tests
 pub two : (a b : Bool) → (a && b) ≡ true → (a ≡ true) × (b ≡ true)
 two a b h = (and_first a b h, and_second a b h)

@@ -52,7 +52,7 @@ use Rattle.db_model.specs.Typing.{has_keys, has_wrong_arity}
 use Rattle.db_model.specs.Table.{KeyList}
 use Rattle.db_model.proofs.Accepted.{append_front, append_back}
 use Rattle.db_model.proofs.Includes.{line_none}
-use Rattle.db_model.proofs.Fitted.{and_first, and_second, and_both}
+use Rattle.db_model.proofs.Fitted.{not_false, and_first, and_second, and_both}
 use Rattle.db_model.proofs.Proper.{proper_then, step_then, OnValue, Evaluates, eval_then, eval_any, asked, AllEvaluate, keys_evaluate, evaluates}
 
 module _ (db : Database) where
@@ -186,10 +186,6 @@ module _ (db : Database) where
   or_neither : (a b : Bool) → (a || b) ≡ false → (a ≡ false) × (b ≡ false)
   or_neither true b h = (cc)
   or_neither false b h = (refl, h)
-
-  not_false : (a : Bool) → not a ≡ false → a ≡ true
-  not_false true h = refl
-  not_false false h = (cc)
 
   -- masks that have the lengths of their keys, where there is one key of each size
   masks_filled : (sizes : List ℕ) (keys : List UpdateKey) → length sizes ≡ length keys → masks_differ sizes keys ≡ false → keys_fit sizes (filled sizes (map (λ k. k.mask) keys)) ≡ true

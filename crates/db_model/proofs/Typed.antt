@@ -44,7 +44,7 @@ use Rattle.db_model.specs.Questions.{Asks, Gives, Asking, and_then, ◌then◌, 
 use Rattle.db_model.specs.Special.{Special, Packet, PacketLength, CurrentOffset, ProtoOffset, LinkType, special}
 use Rattle.db_model.specs.Typed.{variables_fit, last_hit_fits, hits_fit, env_fits, Gets, IsTyped}
 use Rattle.db_model.specs.Typing.{is_among, is_protocol, has_undeclared, has_wrong_arity, typed_if, operator_ty, declared_ty, column_ty, columns_in, variable_ty, ty_of, or_mistyped, type_of}
-use Rattle.db_model.proofs.Fitted.{and_both, and_first, and_second, two}
+use Rattle.db_model.proofs.Fitted.{not_false, and_both, and_first, and_second, two}
 use Rattle.db_model.proofs.Includes.{line_none}
 use Rattle.db_model.proofs.Proper.{OnValue}
 
@@ -233,10 +233,6 @@ module _ (db : Database) where
       gets_map (Gives r) m = (on r.0 m.0, m.1)
       gets_map (Asking q c) m = λ a l. gets_map (c a) (m a l)
 
-  not_so : (b : Bool) → not b ≡ false → b ≡ true
-  not_so true h = refl
-  not_so false h = (cc)
-
   module _ (fields : List Text) where
     abbrev gives : Expr → Eval Value
     gives e = fold_expr (Eval Value) (meaning.value db fields) e
@@ -278,7 +274,7 @@ module _ (db : Database) where
 
     protocol_typed : (name : Text) → not (is_protocol db name) ≡ false → has_type db ty.Proto (value.Proto (protocol_at db name)) ≡ true
     protocol_typed name u =
-        (Decides-ltb (protocol_at db name) (length db.protocols)).1 (omega (arith, place_below name (map (λ d. d.name) db.protocols) (not_so (is_protocol db name) u), length-map db.protocols (λ (d : Protocol). d.name)))
+        (Decides-ltb (protocol_at db name) (length db.protocols)).1 (omega (arith, place_below name (map (λ d. d.name) db.protocols) (not_false (is_protocol db name) u), length-map db.protocols (λ (d : Protocol). d.name)))
 
     if_fit : (b : Bool) (P : Value → Type 0) (p q : Eval Value) → KeepsFit P p → KeepsFit P q → KeepsFit P (if b then p else q)
     if_fit true P p q h g = h
@@ -348,10 +344,10 @@ module _ (db : Database) where
   literal_typed : (t : Ty) (l : Literal) → literal_is_unknown db l ≡ false → literal_is_wrong db t l ≡ false → has_type db t (literal db l) ≡ true
   literal_typed ty.Num (literal.Number n) h k = refl
   literal_typed ty.Num (literal.Text b) h k = (cc)
-  literal_typed ty.Num (literal.Protocol name) h k = absurd (never (is_protocol db name) (not_so db (is_protocol db name) h) k)
+  literal_typed ty.Num (literal.Protocol name) h k = absurd (never (is_protocol db name) (not_false (is_protocol db name) h) k)
   literal_typed ty.Buf (literal.Number n) h k = (cc)
   literal_typed ty.Buf (literal.Text b) h k = refl
-  literal_typed ty.Buf (literal.Protocol name) h k = absurd (never (is_protocol db name) (not_so db (is_protocol db name) h) k)
+  literal_typed ty.Buf (literal.Protocol name) h k = absurd (never (is_protocol db name) (not_false (is_protocol db name) h) k)
   literal_typed ty.Proto (literal.Number n) h k = (cc)
   literal_typed ty.Proto (literal.Text b) h k = (cc)
   literal_typed ty.Proto (literal.Protocol name) h k = protocol_typed db [] name h
