@@ -143,8 +143,8 @@ way_of : (p : Protocol) (a c : Text) → Reaches p a c → Way p (names_by (bloc
 way_of p _ _ (AtOnce a c e) = Last a c (declared (counts_in (fields_in p.format)) a c (blocks_in p.format) e) e
 way_of p _ _ (Through a b c e r) = More a b c (declared (counts_in (fields_in p.format)) a b (blocks_in p.format) e) e (way_of p b c r)
 
-found : (p : Protocol) (a c : Text) → Reaches p a c → reaches p c (length (blocks_in p.format)) (included_by (block_at p a)) ≡ true
-found p a c r = walks p (length (blocks_in p.format)) (names_by (blocks_in p.format)) a c (omega (arith, length-map (blocks_in p.format) (λ (b : NamedBlock). b.name))) (way_of p a c r)
+walked : (p : Protocol) (a c : Text) → Reaches p a c → reaches p c (length (blocks_in p.format)) (included_by (block_at p a)) ≡ true
+walked p a c r = walks p (length (blocks_in p.format)) (names_by (blocks_in p.format)) a c (omega (arith, length-map (blocks_in p.format) (λ (b : NamedBlock). b.name))) (way_of p a c r)
 
 -- what the walk finds is reached
 is_reached : (p : Protocol) (n : ℕ) (a c : Text) → reaches p c n (included_by (block_at p a)) ≡ true → Reaches p a c
@@ -209,7 +209,7 @@ first_there name before (y ∷ ys) h g = by (bytes_eq name y.name) refl h (λ (i
 -- ---- the law
 
 own_cycle : (p : Protocol) (k : ℕ) (b : NamedBlock) → slice_get (firsts [] (blocks_in p.format)) k ≡ Some b → Reaches p b.name b.name → includes_itself p b ≡ true
-own_cycle p k b h r = subst (λ names. reaches p b.name (length (blocks_in p.format)) names ≡ true) (first_is (counts_in (fields_in p.format)) [] (blocks_in p.format) k b h) (found p b.name b.name r)
+own_cycle p k b h r = subst (λ names. reaches p b.name (length (blocks_in p.format)) names ≡ true) (first_is (counts_in (fields_in p.format)) [] (blocks_in p.format) k b h) (walked p b.name b.name r)
 
 cycle_own : (p : Protocol) (k : ℕ) (b : NamedBlock) → slice_get (firsts [] (blocks_in p.format)) k ≡ Some b → includes_itself p b ≡ true → Reaches p b.name b.name
 cycle_own p k b h e = is_reached p (length (blocks_in p.format)) b.name b.name (subst (λ names. reaches p b.name (length (blocks_in p.format)) names ≡ true) (sym (first_is (counts_in (fields_in p.format)) [] (blocks_in p.format) k b h)) e)

@@ -1,5 +1,5 @@
 -- What fits stays so: a question that fits leaves a session that fits, and the row of its hit fits.
-use Rattle.std.specs.Prelude.{◌≡◌, ℕ, zero, suc, ◌<◌, ◌≤◌, ◌+◌, ◌*◌, Bool, true, false, not, ◌&&◌, if◌then◌else◌, nat_lt, nat_le, ◌==◌, List, [], ◌∷◌, ◌++◌, map, length, find, slice_get, slice_set, bit_and, is_some, Option, Some, None}
+use Rattle.std.specs.Prelude.{◌≡◌, ℕ, zero, suc, ◌<◌, ◌≤◌, Bool, true, false, not, ◌&&◌, if◌then◌else◌, nat_lt, nat_le, ◌==◌, List, [], ◌∷◌, ◌++◌, map, length, find, slice_get, slice_set, bit_and, is_some, Option, Some, None}
 use Rattle.std.proofs.Common.{refl, sym, ap, subst, ◌∙◌, arith}
 use Rattle.std.specs.List.{list_any, list_all}
 use Rattle.std.specs.Option.{option_eq}
@@ -13,16 +13,17 @@ use Rattle.db_model.specs.declared.entry.Entry.{Entry}
 use Rattle.db_model.specs.declared.entry.NewEntry.{NewEntry}
 use Rattle.db_model.specs.declared.entry.Validity.{Validity}
 use Rattle.db_model.specs.declared.entry.Validity.TheVariants.{Forever, MaxTime, UpdateOnHit, AddOnHit}
-use Rattle.db_model.specs.declared.limits.TheConstants.{GREATEST_NUMBER, DEADLINE_END, STAMP_END, SECOND}
+use Rattle.db_model.specs.declared.limits.TheConstants.{GREATEST_NUMBER, DEADLINE_END, STAMP_END}
 use Rattle.db_model.specs.declared.question.Answer.{Answer}
 use Rattle.db_model.specs.declared.question.Answer.TheVariants.{Miss, Hit, Done}
+use Rattle.db_model.specs.declared.question.Question.{Question}
 use Rattle.db_model.specs.declared.question.Question.TheVariants.{Look, Add}
 use Rattle.db_model.specs.Expression.{key_sizes}
-use Rattle.db_model.specs.Fitting.{keys_fit, masks_fit, row_fits, row_declared, look_fits, add_fits, look_fits_in, add_fits_in, question_fits, log_fits, deadline_fits, entry_fits, exact_fits, masked_fits, table_fits, rows_declared, table_declared, tables_fit, session_fits, hit_fits, answer_fits}
+use Rattle.db_model.specs.Fitting.{keys_fit, masks_fit, row_fits, row_declared, look_fits, add_fits, look_fits_in, add_fits_in, question_fits, log_fits, deadline_fits, entry_fits, exact_fits, masked_fits, table_fits, rows_declared, table_declared, tables_fit, session_fits, hit_fits, answer_fits, table_of}
 use Rattle.db_model.specs.Forms.{is_number}
-use Rattle.db_model.specs.Laws.{TableFits, FitsStay, AfterFits}
+use Rattle.db_model.specs.Laws.{TableFits, TableOfQuestion, FitsStay, AfterFits}
 use Rattle.db_model.specs.Session.{Session, declared, look_in, add_in, ask}
-use Rattle.db_model.specs.Table.{Parts, KeyList, empty, same_keys, same_place, masked, masked_by, live, matches, replace, soonest, evict, put_in_full, put_in, put_by, put, after_seconds, first_deadline, entry_at, add, if_live, first_of, found, renewed_by, answered, look}
+use Rattle.db_model.specs.Table.{Parts, KeyList, empty, same_keys, same_place, masked, masked_by, live, matches, replace, soonest, evict, put_in_full, put_in, put_by, put, after_seconds, first_deadline, entry_at, add, if_live, first_of, matching_entry, renewed_by, answered, look}
 use Rattle.db_model.proofs.Kept.{keys_decide, put_in_within}
 
 pub and_first : (a b : Bool) → (a && b) ≡ true → a ≡ true
@@ -36,6 +37,10 @@ and_second false b h = (cc)
 pub and_both : (a b : Bool) → a ≡ true → b ≡ true → (a && b) ≡ true
 and_both true b h k = k
 and_both false b h k = h
+
+pub not_false : (a : Bool) → not a ≡ false → a ≡ true
+not_false true h = refl
+not_false false h = (cc)
 
 -- both of two tests
 pub two : (a b : Bool) → (a && b) ≡ true → (a ≡ true) × (b ≡ true)
@@ -85,7 +90,7 @@ module _ (P : Entry → Bool) where
       pick false ih g = ih g
 
 -- what a look-up finds is found in one of the two parts
-found_in : {Q : Type 0} (t : Parts) (keys : KeyList) (now : ℕ) (e : Entry) → ((i : Entry → Bool) → find i t.exact ≡ Some e → Q) → ((i : Entry → Bool) → find i t.masked ≡ Some e → Q) → found t keys now ≡ Some e → Q
+found_in : {Q : Type 0} (t : Parts) (keys : KeyList) (now : ℕ) (e : Entry) → ((i : Entry → Bool) → find i t.exact ≡ Some e → Q) → ((i : Entry → Bool) → find i t.masked ≡ Some e → Q) → matching_entry t keys now ≡ Some e → Q
 found_in {Q} t keys now e h k g = by (find (λ d. same_keys keys d.keys) t.exact) refl g
   where
     by : (o : Option Entry) → find (λ d. same_keys keys d.keys) t.exact ≡ o → first_of (if_live now o) (find (λ d. live d now && matches d keys) t.masked) ≡ Some e → Q
@@ -277,12 +282,12 @@ module _ (d : TableDecl) where
 
   looked_fits : (t : Parts) (keys : KeyList) (renew : Bool) (now : ℕ) → table_fits d t ≡ true → look_fits d keys ≡ true → now < STAMP_END → (hit_fits d (look d t keys renew now).0 ≡ true) × (table_fits d (look d t keys renew now).1 ≡ true)
   unfolding look look_fits
-  looked_fits t keys renew now h g s = by (found t keys now) refl renew
+  looked_fits t keys renew now h g s = by (matching_entry t keys now) refl renew
     where
-      there : (e : Entry) → found t keys now ≡ Some e → Fits e
+      there : (e : Entry) → matching_entry t keys now ≡ Some e → Fits e
       there e p = let f = table_facts t h in found_in t keys now e (λ i k. from_exact e (all_find (exact_fits d) i t.exact e f.exact k)) (λ i k. from_masked e (all_find (masked_fits d) i t.masked e f.masked k)) p
 
-      by : (o : Option Entry) → found t keys now ≡ o → (r : Bool) → (hit_fits d (answered d t keys r now o).0 ≡ true) × (table_fits d (answered d t keys r now o).1 ≡ true)
+      by : (o : Option Entry) → matching_entry t keys now ≡ o → (r : Bool) → (hit_fits d (answered d t keys r now o).0 ≡ true) × (table_fits d (answered d t keys r now o).1 ≡ true)
       by None p r = (refl, h)
       by (Some e) p true = ((there e p).facts.row, from_table_facts (renewed_by e.validity d t keys now e) (renewed_fits e.validity t keys now e (table_facts t h) g refl (there e p) s))
       by (Some e) p false = ((there e p).facts.row, h)
@@ -317,12 +322,12 @@ module _ (db : Database) where
 
   look_declared : (d : TableDecl) (t : Parts) (keys : KeyList) (renew : Bool) (now : ℕ) → table_declared db t ≡ true → row_known (look d t keys renew now).0 × (table_declared db (look d t keys renew now).1 ≡ true)
   unfolding look
-  look_declared d t keys renew now h = by (found t keys now) refl renew
+  look_declared d t keys renew now h = by (matching_entry t keys now) refl renew
     where
-      there : (e : Entry) → found t keys now ≡ Some e → knows e ≡ true
+      there : (e : Entry) → matching_entry t keys now ≡ Some e → knows e ≡ true
       there e p = let a = two (rows_declared db t.exact) (rows_declared db t.masked) h in found_in t keys now e (λ i k. all_find knows i t.exact e a.0 k) (λ i k. all_find knows i t.masked e a.1 k) p
 
-      by : (o : Option Entry) → found t keys now ≡ o → (r : Bool) → row_known (answered d t keys r now o).0 × (table_declared db (answered d t keys r now o).1 ≡ true)
+      by : (o : Option Entry) → matching_entry t keys now ≡ o → (r : Bool) → row_known (answered d t keys r now o).0 × (table_declared db (answered d t keys r now o).1 ≡ true)
       by None p r = (tt, h)
       by (Some e) p true = (there e p, renewed_declared e.validity d t keys now e h (there e p))
       by (Some e) p false = (there e p, h)
@@ -392,6 +397,33 @@ module _ (db : Database) where
       and_both (both d empty) (tables_fit db ds (map (λ c. empty) ds))
       (and_both (table_fits d empty) (table_declared db empty) (from_table_facts d empty (record { exact_room = omega arith; masked_room = omega arith; exact = refl; masked = refl })) refl)
       (empty_fits ds)
+
+get_below : {A : Type 0} (xs : List A) (n : ℕ) (x : A) → slice_get xs n ≡ Some x → n < length xs
+get_below [] n x e = (cc)
+get_below (y ∷ xs) zero x e = omega arith
+get_below (y ∷ xs) (suc n) x e = omega (arith, get_below xs n x e)
+
+look_below : (db : Database) (n : ℕ) (keys : KeyList) (o : Option TableDecl) → slice_get db.tables n ≡ o → look_fits_in o keys ≡ true → n < length db.tables
+look_below db n keys None e h = (cc)
+look_below db n keys (Some d) e h = get_below db.tables n d e
+
+add_below : (db : Database) (n : ℕ) (a : NewEntry) (o : Option TableDecl) → slice_get db.tables n ≡ o → add_fits_in db o a ≡ true → n < length db.tables
+add_below db n a None e h = (cc)
+add_below db n a (Some d) e h = get_below db.tables n d e
+
+number_below : (db : Database) (q : Question) → question_fits db q ≡ true → table_of q < length db.tables
+unfolding question_fits
+number_below db (Look n keys renew) h = look_below db n keys (slice_get db.tables n) refl h
+number_below db (Add n a) h = add_below db n a (slice_get db.tables n) refl h
+
+pub table_of_question : TableOfQuestion
+unfolding question_fits session_fits
+table_of_question = record {
+  number = number_below;
+  looked = λ db n keys renew d e h. subst (λ o. look_fits_in o keys ≡ true) e h;
+  added = λ db n a d e h. and_first (add_fits d a) (row_declared db a.row) (subst (λ o. add_fits_in db o a ≡ true) e h);
+  held = λ db s n d t p q h. (both_at db db.tables s n d t h p q).0;
+}
 
 pub declared_fits : (db : Database) → session_fits db (declared db) ≡ true
 unfolding session_fits

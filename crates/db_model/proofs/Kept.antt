@@ -9,7 +9,7 @@ use Rattle.std.proofs.lemmas.Bool.Decides.{Decides-and, same_from_decides, Decid
 use Rattle.db_model.specs.declared.database.TableDecl.{TableDecl}
 use Rattle.db_model.specs.declared.entry.Entry.{Entry}
 use Rattle.db_model.specs.Laws.{TableKeeps}
-use Rattle.db_model.specs.Table.{Parts, KeyList, empty, same_keys, same_place, replace, sooner, soonest, evict, put_in_full, put_in, put_by, put, entry_at, add, renewed_by, answered, found, look}
+use Rattle.db_model.specs.Table.{Parts, KeyList, empty, same_keys, same_place, replace, sooner, soonest, evict, put_in_full, put_in, put_by, put, entry_at, add, renewed_by, answered, matching_entry, look}
 use Rattle.db_model.specs.declared.entry.NewEntry.{NewEntry}
 use Rattle.db_model.specs.declared.entry.Validity.{Validity}
 use Rattle.db_model.specs.declared.entry.Validity.TheVariants.{Forever, MaxTime, UpdateOnHit, AddOnHit}
@@ -310,7 +310,7 @@ renewed_kept AddOnHit d t keys now e h = put_kept d t _ h
 
 pub look_kept : (d : TableDecl) (t : Parts) (keys : KeyList) (renew : Bool) (now : ℕ) → Kept d t → Kept d (look d t keys renew now).1
 unfolding look
-look_kept d t keys renew now h = by (found t keys now) renew
+look_kept d t keys renew now h = by (matching_entry t keys now) renew
   where
     by : (o : Option Entry) (r : Bool) → Kept d (answered d t keys r now o).1
     by None r = h

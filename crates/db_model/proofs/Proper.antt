@@ -1,29 +1,28 @@
 -- How computations that ask properly are put together, and what they give over a session.
-use Rattle.std.specs.Prelude.{◌≡◌, ℕ, zero, suc, ◌+◌, ◌<◌, Bool, true, false, ◌&&◌, if◌then◌else◌, List, [], ◌∷◌, ◌++◌, map, length, slice_get, Option, Some, None, Result, Ok, Err, ◌==◌}
-use Rattle.std.proofs.Common.{refl, sym, ap, subst, ◌∙◌, arith, append_assoc, append-nil}
+use Rattle.std.specs.Prelude.{◌≡◌, ℕ, zero, suc, Bool, true, false, if◌then◌else◌, List, [], ◌∷◌, ◌++◌, length, slice_get, Option, Some, None, Result, Ok, Err, ◌==◌}
+use Rattle.std.proofs.Common.{refl, sym, subst, arith, append_assoc, append-nil}
 use Rattle.db_model.specs.declared.database.Database.{Database}
 use Rattle.db_model.specs.declared.database.TableDecl.{TableDecl}
 use Rattle.db_model.specs.declared.env.Env.{Env}
 use Rattle.db_model.specs.declared.expression.Expr as expr
 use Rattle.db_model.specs.declared.expression.Expr.{Expr, Row_of-Expr, end_of-Expr, more_of-Expr}
-use Rattle.db_model.specs.declared.limits.TheConstants.{STAMP_END}
 use Rattle.db_model.specs.declared.question.Answer.{Answer}
 use Rattle.db_model.specs.declared.question.Answer.TheVariants.{Miss, Hit, Done}
 use Rattle.db_model.specs.declared.question.Question.{Question}
-use Rattle.db_model.specs.declared.question.Question.TheVariants.{Look, Add}
+use Rattle.db_model.specs.declared.question.Question.TheVariants.{Look}
 use Rattle.db_model.specs.declared.tree.Reason.{Reason}
 use Rattle.db_model.specs.declared.tree.Reason.TheVariants as reason
 use Rattle.db_model.specs.declared.value.Value.{Value}
-use Rattle.db_model.specs.Expression.{Eval, give, fail, result, when, ◌>>=◌, or_fail, answer_at, asks, found, keys_from, key_sizes, row_hit, look_up, variable_by, last_of, value, val, num, buf, is_so}
-use Rattle.db_model.specs.Fitting.{keys_fit, look_fits, look_fits_in, question_fits, session_fits, log_fits}
+use Rattle.db_model.specs.Expression.{Eval, result, when, ◌>>=◌, or_fail, answer_at, asks, hit_as_number, keys_from, key_sizes, row_hit, look_up, variable_by, last_of, value, val, num, buf, is_so}
+use Rattle.db_model.specs.Fitting.{keys_fit, look_fits, look_fits_in, question_fits, log_fits}
 use Rattle.db_model.specs.Folds.{fold_expr, fold_exprs}
 use Rattle.db_model.specs.Names.{Text, table_at}
 use Rattle.db_model.specs.Proper.{Proper, Leaves, TakesFrom, Any, left_in, PlaysProper}
-use Rattle.db_model.specs.Questions.{Asks, Gives, Asking, and_then, Played, play, Step, pure, ◌then◌, on_ok}
+use Rattle.db_model.specs.Questions.{Asks, Gives, Asking, and_then, play, Step, ◌then◌, on_ok}
 use Rattle.db_model.specs.Session.{Session, ask}
 use Rattle.db_model.specs.Special.{Special, special}
 use Rattle.db_model.specs.Table.{KeyList}
-use Rattle.db_model.proofs.Fitted.{and_both, and_first, fits_stay}
+use Rattle.db_model.proofs.Fitted.{and_both}
 
 -- ---- one after another
 
@@ -89,7 +88,7 @@ module _ (db : Database) where
       by zero e = (e, tt)
       by (suc n) e = (h, λ a. (refl, tt))
 
-  pub found_any : (table : ℕ) (a : Answer) → Evaluates {A = Value} Any (found table a)
+  pub found_any : (table : ℕ) (a : Answer) → Evaluates {A = Value} Any (hit_as_number table a)
   found_any table Miss z = (refl, tt)
   found_any table (Hit row) z = (refl, tt)
   found_any table Done z = (refl, tt)
@@ -119,9 +118,9 @@ module _ (db : Database) where
   unfolding question_fits look_fits
   looks_up None n renew ks e h = λ z. (refl, tt)
   looks_up (Some d) n renew ks e h =
-      eval_then (λ keys. keys_fit (key_sizes (Some d)) keys ≡ true) Any (keys_from [] (key_sizes (Some d)) ks) (λ keys. asks (Look n keys renew) >>= found n)
+      eval_then (λ keys. keys_fit (key_sizes (Some d)) keys ≡ true) Any (keys_from [] (key_sizes (Some d)) ks) (λ keys. asks (Look n keys renew) >>= hit_as_number n)
       (keys_evaluate (λ keys. keys_fit (key_sizes (Some d)) keys ≡ true) (key_sizes (Some d)) ks [] h (λ more m. m))
-      (λ keys m. eval_any (asks (Look n keys renew)) (found n) (asked (Look n keys renew) (subst (λ o. look_fits_in o keys ≡ true) (sym e) m)) (λ a. found_any n a))
+      (λ keys m. eval_any (asks (Look n keys renew)) (hit_as_number n) (asked (Look n keys renew) (subst (λ o. look_fits_in o keys ≡ true) (sym e) m)) (λ a. found_any n a))
 
   module _ (fields : List Text) where
     abbrev gives : Expr → Eval Value

@@ -20,7 +20,7 @@ use Rattle.db_model.specs.declared.tree.Node.{Node}
 use Rattle.db_model.specs.declared.tree.Proto.{Proto}
 use Rattle.db_model.specs.Chain.{before_in, after_in, elements_of, protocol_run, entered, is_at_end, onward, follow, chain}
 use Rattle.db_model.specs.Decoding.{start, payload, decoding, dec}
-use Rattle.db_model.specs.Elements.{Part, each, parts, block_of, included, list_within, list}
+use Rattle.db_model.specs.Elements.{parts, block_of, included, list_within, list}
 use Rattle.db_model.specs.Fitting.{session_fits, log_fits}
 use Rattle.db_model.specs.Forms.{if_there, is_text}
 use Rattle.db_model.specs.Laws.{InTime}
@@ -31,28 +31,29 @@ use Rattle.db_model.specs.Names.{Text, startproto, protocol_at}
 use Rattle.db_model.specs.Numbering.{Counts, plus, a_block, none, counts_in, elements_in, fields_in, blocks_in, field_names, BlockAt, block_from, block_at}
 use Rattle.db_model.specs.Objection.{IsChecked}
 use Rattle.db_model.specs.Proper.{Proper, Leaves, TakesFrom, Any, AnyEnd, left_in_frame, PlaysProper}
-use Rattle.db_model.specs.Questions.{Gives, and_then, Step, play}
-use Rattle.db_model.specs.Runs.{Run, next}
+use Rattle.db_model.specs.Questions.{Gives, Step, play}
+use Rattle.db_model.specs.Runs.{Run}
 use Rattle.db_model.specs.Serial.{decoded, state}
 use Rattle.db_model.specs.Session.{Session}
 use Rattle.db_model.specs.Shape.{ListKind, FieldList, CodeList, EncapList, stands, is_list, is_list_of, code_is_shaped, block_is_shaped, format_is_shaped, protocol_is_shaped, is_shaped, texts_are_shaped, variable_is_shaped, table_is_shaped, template_is_shaped, sections_are_shaped, sum_is_shaped}
 use Rattle.db_model.specs.TypeFaults.{own_47, fault_47}
-use Rattle.db_model.specs.Typing.{is_among, is_protocol}
+use Rattle.db_model.specs.Typing.{is_protocol}
 use Rattle.db_model.proofs.Accepted.{append_front, append_back, no_faults}
 use Rattle.db_model.proofs.Fitted.{and_first, and_second, after_fits}
 use Rattle.db_model.proofs.Play.{session_after}
+use Rattle.db_model.proofs.Includes.{over_none, line_none}
 use Rattle.db_model.proofs.Proper.{proper_then, proper_plays}
-use Rattle.db_model.proofs.ProperRuns.{IsProper, proper_leave, proper_block, AllParts, each_proper, line_false, element_proper}
+use Rattle.db_model.proofs.ProperRuns.{IsProper, proper_leave, proper_block, AllParts, each_proper, element_proper}
 
 -- ---- what stands where it may
 
 -- an element that may stand in a list of some kind
-abbrev Stands_somewhere : Element → Type 0
-Stands_somewhere x = (kind : ListKind) × (looped : Bool) × (stands x kind looped ≡ true)
+abbrev StandsSomewhere : Element → Type 0
+StandsSomewhere x = (kind : ListKind) × (looped : Bool) × (stands x kind looped ≡ true)
 
 abbrev AllStand : List Element → Type 0
 AllStand [] = Unit {0}
-AllStand (x ∷ xs) = Stands_somewhere x × AllStand xs
+AllStand (x ∷ xs) = StandsSomewhere x × AllStand xs
 
 stand_join : (xs ys : List Element) → AllStand xs → AllStand ys → AllStand (xs ++ ys)
 stand_join [] ys h k = k
@@ -88,11 +89,6 @@ all_at : {A : Type 0} (test : A → Bool) (xs : List A) (q : ℕ) (x : A) → li
 all_at test [] q x h g = (cc)
 all_at test (y ∷ xs) zero x h g = let same : y ≡ x = cc in subst (λ z. test z ≡ true) same (and_first (test y) (list_all test xs) h)
 all_at test (y ∷ xs) (suc q) x h g = all_at test xs q x (and_second (test y) (list_all test xs) h) g
-
-none_over : {A : Type 0} (f : A → Lines) (xs : List A) (q : ℕ) (x : A) → over f xs ≡ [] → slice_get xs q ≡ Some x → f x ≡ []
-none_over f [] q x e g = (cc)
-none_over f (y ∷ xs) zero x e g = let same : y ≡ x = cc in subst (λ z. f z ≡ []) same (append_front (f y) (over f xs) e)
-none_over f (y ∷ xs) (suc q) x e g = none_over f xs q x (append_back (f y) (over f xs) e) g
 
 module _ (db : Database) (o : 0 < length db.protocols) where
   abbrev lines : List Element → Lines
@@ -142,7 +138,7 @@ module _ (db : Database) (o : 0 < length db.protocols) where
 is_there : (db : Database) → IsChecked db → 0 < length db.protocols
 unfolding fault_41
 is_there db c =
-    by db.protocols (line_false db db.line (not (is_protocol db startproto))
+    by db.protocols (line_none db.line (not (is_protocol db startproto))
     (append_front (at_line db.line (not (is_protocol db startproto)))
     (over (λ (v : VarDecl). at_line v.line (literal_is_unknown db v.value)) db.variables ++ (over (λ (t : SumTemplate). over (item_41 db) t.items) db.sum_templates ++ over (protocol_41 db) db.protocols))
     (no_faults db c.accepted).none_41))
@@ -180,7 +176,7 @@ list_proper db q p c g at =
     let s4 = and_second (if_there code_is_shaped p.execute_code) _ s3 in
     let format = and_first (if_there format_is_shaped p.format) _ s4 in
     let encap = and_second (if_there format_is_shaped p.format) _ s4 in
-    let l : lines_in (own_47 db) p ≡ [] = none_over (λ (x : Protocol). lines_in (own_47 db) x) db.protocols q p (no_faults db c.accepted).none_47 g in
+    let l : lines_in (own_47 db) p ≡ [] = over_none (λ (x : Protocol). lines_in (own_47 db) x) db.protocols q p (no_faults db c.accepted).none_47 g in
     let own = append_front (lines db o (elements_of p)) (over (body_lines db o) (blocks_in p.format)) l in
     let bodies = append_back (lines db o (elements_of p)) (over (body_lines db o) (blocks_in p.format)) l in
     within_proper db o p (λ name. body_at db o p (counts_in (fields_in p.format)) name (blocks_in p.format) bodies (shaped_blocks p.format format)) MOST_NESTED (elements_of p) own

@@ -1,9 +1,9 @@
 -- Runs that ask properly: how they are put together, and that each element of a checked database is one.
 use Rattle.std.specs.Prelude.{◌≡◌, ℕ, zero, suc, ◌+◌, ◌-◌, ◌<◌, Bool, true, false, not, ◌||◌, ◌&&◌, if◌then◌else◌, nat_lt, nat_le, ◌==◌, List, [], ◌∷◌, ◌++◌, map, length, replicate, slice_get, is_some, unwrap_or, Option, Some, None, Result, Ok, Err}
-use Rattle.std.proofs.Common.{refl, sym, ap, subst, ◌∙◌, arith, append_assoc, append-nil}
+use Rattle.std.proofs.Common.{refl, sym, subst, ◌∙◌, arith, append_assoc, append-nil}
 use Rattle.std.proofs.lemmas.Bool.Decides.{Decides-eqb, Decides-ltb}
 use Rattle.std.proofs.lemmas.List.{length-map, length-replicate}
-use Rattle.std.specs.List.{list_any, list_all}
+use Rattle.std.specs.List.{list_any}
 use Rattle.db_model.specs.declared.database.ColumnDecl.{ColumnDecl}
 use Rattle.db_model.specs.declared.database.Database.{Database}
 use Rattle.db_model.specs.declared.database.KeyDecl.{KeyDecl}
@@ -20,7 +20,6 @@ use Rattle.db_model.specs.declared.element.UpdateKey.{UpdateKey}
 use Rattle.db_model.specs.declared.element.UpdateValue.{UpdateValue}
 use Rattle.db_model.specs.declared.entry.NewEntry.{NewEntry}
 use Rattle.db_model.specs.declared.entry.Validity.{Validity}
-use Rattle.db_model.specs.declared.env.Frame.{Frame}
 use Rattle.db_model.specs.declared.env.Way.{Way}
 use Rattle.db_model.specs.declared.env.Way.TheVariants.{Next, Break, Continue, Chose, Stop}
 use Rattle.db_model.specs.declared.expression.Expr.{Expr}
@@ -34,8 +33,8 @@ use Rattle.db_model.specs.declared.tree.Reason.TheVariants as reason
 use Rattle.db_model.specs.declared.value.Ty.{Ty}
 use Rattle.db_model.specs.declared.value.Ty.TheVariants as ty
 use Rattle.db_model.specs.declared.value.Value.{Value}
-use Rattle.db_model.specs.Elements.{filled, masks_of, fits_column, row_from, holds, Part, total, each, or_next, choose, control_by, number, field, set_variable, added, update, loop_by, does, means, parts}
-use Rattle.db_model.specs.Expression.{Eval, give, result, when, ◌>>=◌, taken_as, declared_or_first, val, num, proto, is_so, keys_from, key_sizes, asks}
+use Rattle.db_model.specs.Elements.{filled, masks_of, fits_column, row_from, holds, Part, total, each, or_next, choose, control_by, number, field, set_variable, added, update, loop_by, does, means}
+use Rattle.db_model.specs.Expression.{Eval, give, result, when, ◌>>=◌, taken_as, val, num, proto, is_so, keys_from, key_sizes}
 use Rattle.db_model.specs.Extent.{extent, kind_of}
 use Rattle.db_model.specs.Fitting.{keys_fit, masks_fit, is_of_type, row_fits, is_declared, row_declared, add_fits, add_fits_in, question_fits}
 use Rattle.db_model.specs.Folds.{CaseOf, BranchOf, fold_row, fold_cases, fold_held, noted_row, noted_cases, noted_held}
@@ -52,8 +51,9 @@ use Rattle.db_model.specs.TypeFaults.{masks_differ, other_length, other_columns,
 use Rattle.db_model.specs.Typing.{has_keys, has_wrong_arity}
 use Rattle.db_model.specs.Table.{KeyList}
 use Rattle.db_model.proofs.Accepted.{append_front, append_back}
-use Rattle.db_model.proofs.Fitted.{and_first, and_second, and_both}
-use Rattle.db_model.proofs.Proper.{proper_then, step_then, OnValue, Evaluates, eval_then, eval_any, given, asked, AllEvaluate, keys_evaluate, evaluates}
+use Rattle.db_model.proofs.Includes.{line_none}
+use Rattle.db_model.proofs.Fitted.{not_false, and_first, and_second, and_both}
+use Rattle.db_model.proofs.Proper.{proper_then, step_then, OnValue, Evaluates, eval_then, eval_any, asked, AllEvaluate, keys_evaluate, evaluates}
 
 module _ (db : Database) where
   abbrev pub IsProper : Run → Type 0
@@ -187,10 +187,6 @@ module _ (db : Database) where
   or_neither true b h = (cc)
   or_neither false b h = (refl, h)
 
-  not_false : (a : Bool) → not a ≡ false → a ≡ true
-  not_false true h = refl
-  not_false false h = (cc)
-
   -- masks that have the lengths of their keys, where there is one key of each size
   masks_filled : (sizes : List ℕ) (keys : List UpdateKey) → length sizes ≡ length keys → masks_differ sizes keys ≡ false → keys_fit sizes (filled sizes (map (λ k. k.mask) keys)) ≡ true
   masks_filled [] ks e h = refl
@@ -308,10 +304,6 @@ module _ (db : Database) where
   choose_proper v [] other h k at = or_next_proper other k at
   choose_proper v (c ∷ cs) other h k at = proper_if (holds c v) (each c.body at) (choose v cs other (plus at (total c.body))) (each_proper c.body h.0 at) (choose_proper v cs other h.1 k (plus at (total c.body)))
 
-  pub line_false : (line : ℕ) (b : Bool) → at_line line b ≡ [] → b ≡ false
-  line_false line true e = (cc)
-  line_false line false e = refl
-
   -- the lines of fault 47 in parts
   abbrev lines_row : {m : _} → Row_of-Element m → Lines
   lines_row xs = joined (fold_row Lines (λ x. own_47 db x ++ inside x) xs)
@@ -351,7 +343,7 @@ module _ (db : Database) where
           let m = and_first (if_there is_number keep && if_there is_number hit) _ (and_second (is_name table) _ (and_second (not (is_encap_list kind)) _ k)) in
           let wrong = at_line line (update_misses (slice_get db.tables (table_at db table)) validity keep hit keys row) in
           let others = over (λ (w : UpdateKey). at_line w.line (has_wrong_arity db w.value)) keys ++ over (λ (v : UpdateValue). at_line v.line (has_wrong_arity db v.value)) row in
-          update_proper fields o table validity keep hit keys row (line_false line _ (append_front wrong others (append_front (wrong ++ others) [] h)))
+          update_proper fields o table validity keep hit keys row (line_none line _ (append_front wrong others (append_front (wrong ++ others) [] h)))
           (and_first (if_there is_number keep) (if_there is_number hit) m) (and_second (if_there is_number keep) (if_there is_number hit) m)
       element_proper (element.NextProto line e) kind looped h k at = proper_evaluated (val db fields e) (λ v. leave (Chose (proto v))) (evaluates db fields e) (λ v. proper_leave (Chose (proto v)))
 

@@ -1,42 +1,51 @@
 -- The value of a typed expression has its type, and the state after it fits.
-use Rattle.std.specs.Prelude.{◌≡◌, ℕ, zero, suc, ◌<◌, Bool, true, false, not, ◌||◌, ◌&&◌, if◌then◌else◌, nat_lt, nat_le, ◌==◌, List, [], ◌∷◌, ◌++◌, map, length, slice_get, slice_set, bytes_eq, Option, Some, None, Result, Ok, Err}
-use Rattle.std.proofs.Common.{refl, sym, ap, subst, ◌∙◌, arith}
-use Rattle.std.specs.List.{list_any, list_all}
+use Rattle.std.specs.Prelude.{◌≡◌, ℕ, zero, suc, ◌<◌, Bool, ◌&&◌, true, false, not, ◌||◌, if◌then◌else◌, nat_lt, ◌==◌, List, [], ◌∷◌, ◌++◌, map, length, slice_get, slice_set, bytes_eq, Option, Some, None, Result, Ok, Err}
+use Rattle.std.proofs.Common.{refl, ap, subst, ◌∙◌, arith}
+use Rattle.std.specs.List.{list_any}
 use Rattle.std.proofs.lemmas.Bool.Decides.{Decides-ltb}
 use Rattle.std.proofs.lemmas.List.{length-map}
 use Rattle.db_model.specs.declared.database.ColumnDecl.{ColumnDecl}
 use Rattle.db_model.specs.declared.database.Database.{Database}
 use Rattle.db_model.specs.declared.database.Protocol.{Protocol}
+use Rattle.db_model.specs.declared.database.SumTemplate.{SumTemplate}
 use Rattle.db_model.specs.declared.database.TableDecl.{TableDecl}
 use Rattle.db_model.specs.declared.database.VarDecl.{VarDecl}
 use Rattle.db_model.specs.declared.env.Env.{Env}
 use Rattle.db_model.specs.declared.expression.Expr as expr
 use Rattle.db_model.specs.declared.expression.Expr.{Expr, Row_of-Expr, end_of-Expr, more_of-Expr}
+use Rattle.db_model.specs.declared.expression.Literal.{Literal}
+use Rattle.db_model.specs.declared.expression.Literal.TheVariants as literal
 use Rattle.db_model.specs.declared.expression.Operator.{Operator}
 use Rattle.db_model.specs.declared.expression.Operator.TheVariants as op
-use Rattle.db_model.specs.declared.expression.TypeFault.{TypeFault}
 use Rattle.db_model.specs.declared.expression.TypeFault.TheVariants as fault
 use Rattle.db_model.specs.declared.question.Answer.{Answer}
 use Rattle.db_model.specs.declared.question.Answer.TheVariants.{Miss, Hit, Done}
 use Rattle.db_model.specs.declared.question.Question.{Question}
-use Rattle.db_model.specs.declared.question.Question.TheVariants.{Look, Add}
+use Rattle.db_model.specs.declared.question.Question.TheVariants.{Look}
 use Rattle.db_model.specs.declared.tree.Reason.{Reason}
 use Rattle.db_model.specs.declared.tree.Reason.TheVariants as reason
 use Rattle.db_model.specs.declared.value.Ty.{Ty}
 use Rattle.db_model.specs.declared.value.Ty.TheVariants as ty
 use Rattle.db_model.specs.declared.value.Value.{Value}
 use Rattle.db_model.specs.declared.value.Value.TheVariants as value
-use Rattle.db_model.specs.Expression.{Eval, give, fail, result, when, ◌>>=◌, or_fail, answer_at, asks, found, keys_from, key_sizes, columns_of, row_hit, look_up, special_value, variable_by, value_or_zero, last_of, val, num, buf, proto, is_so, truth, in_range, binary, slice, to_number, in_bytes, declared_or_first, taken_as}
+use Rattle.db_model.specs.Expression.{Eval, give, fail, result, when, ◌>>=◌, or_fail, answer_at, asks, hit_as_number, keys_from, key_sizes, columns_of, row_hit, look_up, special_value, variable_by, value_or_zero, last_of, val, num, buf, proto, is_so, truth, in_range, binary, slice, to_number, in_bytes, declared_or_first, taken_as}
 use Rattle.db_model.specs.Expression as meaning
 use Rattle.db_model.specs.Fitting.{is_of_type, row_fits, is_declared, has_type, row_declared, answer_fits, table_of}
 use Rattle.db_model.specs.Folds.{fold_expr, fold_exprs}
-use Rattle.db_model.specs.Laws.{TypedValues, TakenAsItself}
-use Rattle.db_model.specs.Names.{Text, place, protocol_at, variable_at, table_at, column_at}
-use Rattle.db_model.specs.Questions.{Asks, Gives, Asking, and_then, Step, ◌then◌, on_ok}
+use Rattle.db_model.specs.Decoding.{literal}
+use Rattle.db_model.specs.Laws.{TypedValues, TakenAsItself, StartFits}
+use Rattle.db_model.specs.Lines.{Lines, over, at_line, lines_in}
+use Rattle.db_model.specs.NameFaults.{fault_41, literal_is_unknown, item_41, protocol_41}
+use Rattle.db_model.specs.Numbering.{field_names}
+use Rattle.db_model.specs.TypeFaults.{fault_42, literal_is_wrong, own_42}
+use Rattle.db_model.proofs.Accepted.{append_front, append_back, no_faults}
+use Rattle.db_model.specs.Names.{Text, startproto, place, protocol_at, variable_at, table_at, column_at}
+use Rattle.db_model.specs.Questions.{Asks, Gives, Asking, and_then, ◌then◌, on_ok}
 use Rattle.db_model.specs.Special.{Special, Packet, PacketLength, CurrentOffset, ProtoOffset, LinkType, special}
 use Rattle.db_model.specs.Typed.{variables_fit, last_hit_fits, hits_fit, env_fits, Gets, IsTyped}
-use Rattle.db_model.specs.Typing.{is_among, is_protocol, undeclared_step, has_undeclared, has_wrong_arity, typed_if, is_of, alike, operator_ty, special_ty, declared_ty, column_ty, columns_in, variable_ty, ty_step, ty_of, or_mistyped, type_of}
-use Rattle.db_model.proofs.Fitted.{and_both, and_first, and_second, two}
+use Rattle.db_model.specs.Typing.{is_among, is_protocol, has_undeclared, has_wrong_arity, typed_if, operator_ty, declared_ty, column_ty, columns_in, variable_ty, ty_of, or_mistyped, type_of}
+use Rattle.db_model.proofs.Fitted.{not_false, and_both, and_first, and_second, two}
+use Rattle.db_model.proofs.Includes.{line_none}
 use Rattle.db_model.proofs.Proper.{OnValue}
 
 pub gets_then : {A B : Type 0} (db : Database) (P : A → Type 0) (Q : B → Type 0) (f : A → Asks B) → ((a : A) → P a → Gets db Q (f a)) → (x : Asks A) → Gets db P x → Gets db Q (and_then x f)
@@ -104,30 +113,30 @@ module _ (db : Database) where
       on (Ok a) m y l = g a m y l
       on (Err e) m y l = (tt, l)
 
-  abbrev pub Some_value : {A : Type 0} → A → Type 0
-  Some_value a = Unit {0}
+  abbrev pub SomeValue : {A : Type 0} → A → Type 0
+  SomeValue a = Unit {0}
 
-  fit_any : {A B : Type 0} (Q : B → Type 0) (p : Eval A) (f : A → Eval B) → KeepsFit {A = A} Some_value p → ((a : A) → KeepsFit Q (f a)) → KeepsFit Q (p >>= f)
-  fit_any Q p f h g = fit_then Some_value Q p f h (λ a k. g a)
+  fit_any : {A B : Type 0} (Q : B → Type 0) (p : Eval A) (f : A → Eval B) → KeepsFit {A = A} SomeValue p → ((a : A) → KeepsFit Q (f a)) → KeepsFit Q (p >>= f)
+  fit_any Q p f h g = fit_then SomeValue Q p f h (λ a k. g a)
 
   fit_result : {A : Type 0} (P : A → Type 0) (r : Result A Reason) → OnValue P r → KeepsFit P (result r)
   fit_result P r h z k = (h, k)
 
-  no_value : {A : Type 0} (r : Result A Reason) → OnValue {A = A} Some_value r
+  no_value : {A : Type 0} (r : Result A Reason) → OnValue {A = A} SomeValue r
   no_value (Ok a) = tt
   no_value (Err e) = tt
 
   abbrev AllFit : List (Eval Value) → Type 0
   AllFit [] = Unit {0}
-  AllFit (p ∷ ps) = KeepsFit {A = Value} Some_value p × AllFit ps
+  AllFit (p ∷ ps) = KeepsFit {A = Value} SomeValue p × AllFit ps
 
-  fit_keys : (sizes : List ℕ) (ps : List (Eval Value)) (before : List (List ℕ)) → AllFit ps → KeepsFit {A = List (List ℕ)} Some_value (keys_from before sizes ps)
+  fit_keys : (sizes : List ℕ) (ps : List (Eval Value)) (before : List (List ℕ)) → AllFit ps → KeepsFit {A = List (List ℕ)} SomeValue (keys_from before sizes ps)
   fit_keys [] ps before h z k = (tt, k)
   fit_keys (size ∷ sizes) [] before h z k = (tt, k)
   fit_keys (size ∷ sizes) (p ∷ ps) before h z k =
-      fit_any Some_value p (λ v. result (when (length (buf v) == size) reason.KeySize (buf v)) >>= (λ w. keys_from (before ++ w ∷ []) sizes ps)) h.0
-      (λ v. fit_any Some_value (result (when (length (buf v) == size) reason.KeySize (buf v))) (λ w. keys_from (before ++ w ∷ []) sizes ps)
-      (fit_result Some_value (when (length (buf v) == size) reason.KeySize (buf v)) (no_value (when (length (buf v) == size) reason.KeySize (buf v))))
+      fit_any SomeValue p (λ v. result (when (length (buf v) == size) reason.KeySize (buf v)) >>= (λ w. keys_from (before ++ w ∷ []) sizes ps)) h.0
+      (λ v. fit_any SomeValue (result (when (length (buf v) == size) reason.KeySize (buf v))) (λ w. keys_from (before ++ w ∷ []) sizes ps)
+      (fit_result SomeValue (when (length (buf v) == size) reason.KeySize (buf v)) (no_value (when (length (buf v) == size) reason.KeySize (buf v))))
       (λ w. fit_keys sizes ps (before ++ w ∷ []) h.1)) z k
 
   abbrev Answered : Question → Answer → Type 0
@@ -144,7 +153,7 @@ module _ (db : Database) where
   abbrev IsNum : Value → Type 0
   IsNum v = has_type db ty.Num v ≡ true
 
-  fit_found : (n : ℕ) (d : TableDecl) (a : Answer) → slice_get db.tables n ≡ Some d → answer_fits db (Some d) a ≡ true → KeepsFit IsNum (found n a)
+  fit_found : (n : ℕ) (d : TableDecl) (a : Answer) → slice_get db.tables n ≡ Some d → answer_fits db (Some d) a ≡ true → KeepsFit IsNum (hit_as_number n a)
   unfolding env_fits
   fit_found n d Miss e h z k = (refl, k)
   fit_found n d (Hit row) e h z k =
@@ -155,8 +164,8 @@ module _ (db : Database) where
   fit_look : (d : Option TableDecl) (n : ℕ) (renew : Bool) (ks : List (Eval Value)) → slice_get db.tables n ≡ d → AllFit ks → KeepsFit IsNum (look_up d n renew ks)
   fit_look None n renew ks e h z k = (refl, k)
   fit_look (Some d) n renew ks e h z k =
-      fit_any IsNum (keys_from [] (key_sizes (Some d)) ks) (λ keys. asks (Look n keys renew) >>= found n) (fit_keys (key_sizes (Some d)) ks [] h)
-      (λ keys. fit_then (Answered (Look n keys renew)) IsNum (asks (Look n keys renew)) (found n) (fit_asks (Look n keys renew)) (λ a m. fit_found n d a e (subst (λ x. answer_fits db x a ≡ true) e m))) z k
+      fit_any IsNum (keys_from [] (key_sizes (Some d)) ks) (λ keys. asks (Look n keys renew) >>= hit_as_number n) (fit_keys (key_sizes (Some d)) ks [] h)
+      (λ keys. fit_then (Answered (Look n keys renew)) IsNum (asks (Look n keys renew)) (hit_as_number n) (fit_asks (Look n keys renew)) (λ a m. fit_found n d a e (subst (λ x. answer_fits db x a ≡ true) e m))) z k
 
   -- ---- types
 
@@ -224,10 +233,6 @@ module _ (db : Database) where
       gets_map (Gives r) m = (on r.0 m.0, m.1)
       gets_map (Asking q c) m = λ a l. gets_map (c a) (m a l)
 
-  not_so : (b : Bool) → not b ≡ false → b ≡ true
-  not_so true h = refl
-  not_so false h = (cc)
-
   module _ (fields : List Text) where
     abbrev gives : Expr → Eval Value
     gives e = fold_expr (Eval Value) (meaning.value db fields) e
@@ -263,13 +268,13 @@ module _ (db : Database) where
         let a = two (row_fits d.columns row) (row_declared db row) (h d g) in
         column_typed db d.columns row (column_at (Some d) column) t a.0 a.1 e
 
-    field_fit : (o : Option (List ℕ)) → KeepsFit {A = List ℕ} Some_value (or_fail reason.NoField o)
+    field_fit : (o : Option (List ℕ)) → KeepsFit {A = List ℕ} SomeValue (or_fail reason.NoField o)
     field_fit None z k = (tt, k)
     field_fit (Some b) z k = (tt, k)
 
     protocol_typed : (name : Text) → not (is_protocol db name) ≡ false → has_type db ty.Proto (value.Proto (protocol_at db name)) ≡ true
     protocol_typed name u =
-        (Decides-ltb (protocol_at db name) (length db.protocols)).1 (omega (arith, place_below name (map (λ d. d.name) db.protocols) (not_so (is_protocol db name) u), length-map db.protocols (λ (d : Protocol). d.name)))
+        (Decides-ltb (protocol_at db name) (length db.protocols)).1 (omega (arith, place_below name (map (λ d. d.name) db.protocols) (not_false (is_protocol db name) u), length-map db.protocols (λ (d : Protocol). d.name)))
 
     if_fit : (b : Bool) (P : Value → Type 0) (p q : Eval Value) → KeepsFit P p → KeepsFit P q → KeepsFit P (if b then p else q)
     if_fit true P p q h g = h
@@ -278,8 +283,8 @@ module _ (db : Database) where
     num_given : (v : Value) → IsNum v → KeepsFit IsNum (give v)
     num_given v h = fit_result IsNum (Ok v) h
 
-    as_kept : (e : Expr) → KeepsFit (Typed e) (gives e) → KeepsFit {A = Value} Some_value (gives e)
-    as_kept e h = weaker (Typed e) Some_value (λ v k. tt) (gives e) h
+    as_kept : (e : Expr) → KeepsFit (Typed e) (gives e) → KeepsFit {A = Value} SomeValue (gives e)
+    as_kept e h = weaker (Typed e) SomeValue (λ v k. tt) (gives e) h
 
     mutual
       typed : (e : Expr) → KeepsFit (Typed e) (gives e)
@@ -328,6 +333,51 @@ typed_values db fields e t z h k = by (has_undeclared db fields e) (has_wrong_ar
     by false true o p q g = (cc)
     by false false None p q g = (cc)
     by false false (Some s) p q g = let m : s ≡ t = cc in gets_typed (gives db fields e z) (typed db fields e z k) p (q ∙ ap Some m)
+
+-- ---- the state with which a decoding begins
+
+never : (b : Bool) → b ≡ true → (b && true) ≡ false → ⊥
+never true g e = (cc)
+never false g e = (cc)
+
+module _ (db : Database) where
+  literal_typed : (t : Ty) (l : Literal) → literal_is_unknown db l ≡ false → literal_is_wrong db t l ≡ false → has_type db t (literal db l) ≡ true
+  literal_typed ty.Num (literal.Number n) h k = refl
+  literal_typed ty.Num (literal.Text b) h k = (cc)
+  literal_typed ty.Num (literal.Protocol name) h k = absurd (never (is_protocol db name) (not_false (is_protocol db name) h) k)
+  literal_typed ty.Buf (literal.Number n) h k = (cc)
+  literal_typed ty.Buf (literal.Text b) h k = refl
+  literal_typed ty.Buf (literal.Protocol name) h k = absurd (never (is_protocol db name) (not_false (is_protocol db name) h) k)
+  literal_typed ty.Proto (literal.Number n) h k = (cc)
+  literal_typed ty.Proto (literal.Text b) h k = (cc)
+  literal_typed ty.Proto (literal.Protocol name) h k = protocol_typed db [] name h
+
+  abbrev unknown : VarDecl → Lines
+  unknown v = at_line v.line (literal_is_unknown db v.value)
+
+  abbrev wrong : VarDecl → Lines
+  wrong v = at_line v.line (literal_is_wrong db v.ty v.value)
+
+  first_variables : (ds : List VarDecl) → over unknown ds ≡ [] → over wrong ds ≡ [] → variables_fit db ds (map (λ v. literal db v.value) ds) ≡ true
+  first_variables [] h k = refl
+  first_variables (d ∷ ds) h k =
+      and_both (has_type db d.ty (literal db d.value)) (variables_fit db ds (map (λ v. literal db v.value) ds))
+      (literal_typed d.ty d.value (line_none d.line (literal_is_unknown db d.value) (append_front (unknown d) (over unknown ds) h)) (line_none d.line (literal_is_wrong db d.ty d.value) (append_front (wrong d) (over wrong ds) k)))
+      (first_variables ds (append_back (unknown d) (over unknown ds) h) (append_back (wrong d) (over wrong ds) k))
+
+  no_hits : (ds : List TableDecl) → hits_fit db ds (map (λ d. None) ds) ≡ true
+  no_hits [] = refl
+  no_hits (d ∷ ds) = no_hits ds
+
+pub start_fits : StartFits
+unfolding env_fits fault_41 fault_42
+start_fits db p c =
+    let names = no_faults db c.accepted in
+    let rest = over (λ (t : SumTemplate). over (item_41 db) t.items) db.sum_templates ++ over (protocol_41 db) db.protocols in
+    let first = at_line db.line (not (is_protocol db startproto)) in
+    let a = append_front (over (unknown db) db.variables) rest (append_back first (over (unknown db) db.variables ++ rest) names.none_41) in
+    let b = append_front (over (wrong db) db.variables) (over (λ (q : Protocol). lines_in (own_42 db (field_names q)) q) db.protocols) names.none_42 in
+    and_both (variables_fit db db.variables (map (λ v. literal db v.value) db.variables)) (hits_fit db db.tables (map (λ d. None) db.tables)) (first_variables db db.variables a b) (no_hits db db.tables)
 
 pub taken_itself : TakenAsItself
 taken_itself db ty.Num (value.Num n) h = refl

@@ -147,10 +147,10 @@ abbrev pub asks : Question → Eval Answer
 asks q = λ z. answer_at q z z.questions
 
 -- a hit is 1, and sets the row last hit of its table
-abbrev pub found : ℕ → Answer → Eval Value
-found table Miss = give (Num 0)
-found table (Hit row) = λ z. Gives (Ok (Num 1), record z { hits = slice_set z.hits table (Some row) })
-found table Done = give (Num 0)
+abbrev pub hit_as_number : ℕ → Answer → Eval Value
+hit_as_number table Miss = give (Num 0)
+hit_as_number table (Hit row) = λ z. Gives (Ok (Num 1), record z { hits = slice_set z.hits table (Some row) })
+hit_as_number table Done = give (Num 0)
 
 -- the keys, each checked for its size right after it is evaluated, behind those that are there. One that isn't there has no size
 abbrev pub keys_from : List (List ℕ) → List ℕ → List (Eval Value) → Eval (List (List ℕ))
@@ -188,7 +188,7 @@ special_value LinkType z = Num z.packet.link
 -- the keys, then one question. A table that isn't declared has nothing to hit
 abbrev pub look_up : Option TableDecl → ℕ → Bool → List (Eval Value) → Eval Value
 look_up None n renew ks = give (Num 0)
-look_up (Some d) n renew ks = keys_from [] (key_sizes (Some d)) ks >>= (λ keys. asks (Look n keys renew) >>= found n)
+look_up (Some d) n renew ks = keys_from [] (key_sizes (Some d)) ks >>= (λ keys. asks (Look n keys renew) >>= hit_as_number n)
 
 module _ (db : Database) (fields : List Text) where
   abbrev pub variable_by : Option Special → Text → Eval Value

@@ -11,11 +11,12 @@ use Rattle.db_model.specs.declared.expression.Expr.{Expr}
 use Rattle.db_model.specs.declared.limits.TheConstants.{MOST_NESTED, MOST_QUESTIONS, STAMP_END}
 use Rattle.db_model.specs.declared.packet.Packet.{Packet}
 use Rattle.db_model.specs.declared.question.Question.{Question}
+use Rattle.db_model.specs.declared.question.Question.TheVariants.{Look, Add}
 use Rattle.db_model.specs.declared.value.Ty.{Ty}
 use Rattle.db_model.specs.declared.value.Value.{Value}
 use Rattle.db_model.specs.BlockFaults.{firsts, includes_itself, Reaches, protocol_45}
 use Rattle.db_model.specs.Chain.{elements_of, chain}
-use Rattle.db_model.specs.Decoding.{decoding, dec}
+use Rattle.db_model.specs.Decoding.{start_env, decoding, dec}
 use Rattle.db_model.specs.Elements.{block_of, included, list}
 use Rattle.db_model.specs.Expression.{val, taken_as}
 use Rattle.db_model.specs.Fitting.{look_fits, add_fits, question_fits, log_fits, table_fits, session_fits, has_type, hit_fits, answer_fits, table_of}
@@ -85,6 +86,13 @@ pub record TableFits : Type 0 where
   pub added : (d : TableDecl) (t : Parts) (n : NewEntry) (now : ℕ) → table_fits d t ≡ true → add_fits d n ≡ true → now < STAMP_END → table_fits d (add d t n now) ≡ true
   pub looked : (d : TableDecl) (t : Parts) (keys : KeyList) (renew : Bool) (now : ℕ) → table_fits d t ≡ true → look_fits d keys ≡ true → now < STAMP_END → (hit_fits d (look d t keys renew now).0 ≡ true) × (table_fits d (look d t keys renew now).1 ≡ true)
 
+-- what fits a database fits the table that is asked: its number is that of a declared one, what it is asked fits its declaration, and so does what it holds in a session that fits
+pub record TableOfQuestion : Type 0 where
+  pub number : (db : Database) (q : Question) → question_fits db q ≡ true → table_of q < length db.tables
+  pub looked : (db : Database) (n : ℕ) (keys : KeyList) (renew : Bool) (d : TableDecl) → slice_get db.tables n ≡ Some d → question_fits db (Look n keys renew) ≡ true → look_fits d keys ≡ true
+  pub added : (db : Database) (n : ℕ) (e : NewEntry) (d : TableDecl) → slice_get db.tables n ≡ Some d → question_fits db (Add n e) ≡ true → add_fits d e ≡ true
+  pub held : (db : Database) (s : Session) (n : ℕ) (d : TableDecl) (t : Parts) → slice_get db.tables n ≡ Some d → slice_get s n ≡ Some t → session_fits db s ≡ true → table_fits d t ≡ true
+
 -- a question that fits leaves a session that fits, and the row of its hit fits
 abbrev pub FitsStay : Type 0
 FitsStay = (db : Database) (s : Session) (q : Question) (t : ℕ) → session_fits db s ≡ true → question_fits db q ≡ true → t < STAMP_END → (answer_fits db (slice_get db.tables (table_of q)) (ask db s q t).0 ≡ true) × (session_fits db (ask db s q t).1 ≡ true)
@@ -129,6 +137,10 @@ pub record SerialFits : Type 0 where
 -- the value of a typed expression has its type, whatever answers that fit it gets, from a state that fits; and the state after it fits
 abbrev pub TypedValues : Type 0
 TypedValues = (db : Database) (fields : List Text) (e : Expr) (ty : Ty) (z : Env) → type_of db fields e ≡ Ok ty → env_fits db z ≡ true → Gets db (λ r. IsTyped db ty r.0 × (env_fits db r.1 ≡ true)) (val db fields e z)
+
+-- the state with which a decoding begins fits a checked database
+abbrev pub StartFits : Type 0
+StartFits = (db : Database) (p : Packet) → IsChecked db → env_fits db (start_env db p) ≡ true
 
 -- a value that has a type is itself where it is taken as one of that type, as the data values of an update are
 abbrev pub TakenAsItself : Type 0

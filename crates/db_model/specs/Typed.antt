@@ -1,5 +1,5 @@
 -- A state of decoding that fits a database, and what holds of a computation's result where the answers that it gets fit.
-use Rattle.std.specs.Prelude.{◌≡◌, ℕ, Bool, true, false, ◌&&◌, List, [], ◌∷◌, slice_get, Option, Some, None, Result, Ok, Err}
+use Rattle.std.specs.Prelude.{◌≡◌, Bool, true, false, ◌&&◌, List, [], ◌∷◌, slice_get, Option, Some, None, Result, Ok, Err}
 use Rattle.db_model.specs.declared.database.Database.{Database}
 use Rattle.db_model.specs.declared.database.TableDecl.{TableDecl}
 use Rattle.db_model.specs.declared.database.VarDecl.{VarDecl}

@@ -1,6 +1,6 @@
 //! The laws of the definitions, each the contract of a function that does nothing.
 
-ghost use Rattle.db_model.specs.Laws.{UnchangedDecoding, UnchangedComputation, DiffersNowhere, AgreesInParts, SessionOfDecoding, SerialFrom, SerialFront, IncludesEnd, CyclesFound, PutKeeps, TableKeeps, TableFits, FitsStay, DeclaredFits, AsksProperly, ProperComputations, AfterFits, DecodingFits, SerialFits, TypedValues, TakenAsItself, CarriesState};
+ghost use Rattle.db_model.specs.Laws.{UnchangedDecoding, UnchangedComputation, DiffersNowhere, AgreesInParts, SessionOfDecoding, SerialFrom, SerialFront, IncludesEnd, CyclesFound, PutKeeps, TableKeeps, TableFits, TableOfQuestion, FitsStay, DeclaredFits, AsksProperly, ProperComputations, AfterFits, DecodingFits, SerialFits, TypedValues, StartFits, TakenAsItself, CarriesState};
 
 /// Where the log of a decoding agrees with another session, decoding from there gives the same tree and log.
 pub fn unchanged_decoding()
@@ -63,6 +63,11 @@ pub fn table_fits()
     ensures { TableFits }
 {}
 
+/// What fits a database fits the table that is asked.
+pub fn table_of_question()
+    ensures { TableOfQuestion }
+{}
+
 /// A question that fits leaves a session that fits, and the row of its hit fits.
 pub fn fits_stay()
     ensures { FitsStay }
@@ -101,6 +106,11 @@ pub fn serial_fits()
 /// The value of a typed expression has its type.
 pub fn typed_values()
     ensures { TypedValues }
+{}
+
+/// The state with which a decoding begins fits a checked database.
+pub fn start_fits()
+    ensures { StartFits }
 {}
 
 /// A value that has a type is itself where it is taken as one of that type.

@@ -23,7 +23,7 @@ use std::marker::Model;
 
 /// A host in memory, which fails as it was told and where an input is missing. It tells everything.
 /// An id is the place in the list of its inputs or of its outputs.
-#[derive(Debug, Drop)]
+#[derive(Drop)]
 pub struct MemHost {
     alloc: Global,
     chunk: u32,

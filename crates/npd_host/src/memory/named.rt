@@ -5,7 +5,7 @@ use std::alloc::Global;
 use std::marker::Model;
 
 /// Bytes under a name: a file, or an output with what it has taken.
-#[derive(Debug, Drop)]
+#[derive(Drop)]
 pub struct NamedBytes {
     name: Word,
     bytes: Vec<u8>,
