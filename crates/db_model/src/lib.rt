@@ -132,6 +132,3 @@ pub use value::Keys;
 pub use value::Row;
 pub use value::Ty;
 pub use value::Value;
-
-#[cfg(test)]
-mod tests;
