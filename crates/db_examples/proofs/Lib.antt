@@ -2,7 +2,7 @@ pub mod Elements
 pub mod Faults
 pub mod Protocols
 pub mod Tables
-pub mod Values
+pub mod Expressions
 pub mod Worked
 pub mod Judged
 pub mod Rules

@@ -89,9 +89,9 @@ trees =
     (tree_in (two (a ∷ []) (a ∷ pad ∷ b ∷ [])) (0 ∷ 1 ∷ 0 ∷ 0 ∷ 0 ∷ 9 ∷ []), proto 0 0 1 (read 0 0 0 ∷ []) ∷ proto 1 1 5 (read 0 1 1 ∷ Field 1 2 3 (0 ∷ 0 ∷ 0 ∷ []) ∷ read 2 5 9 ∷ []) ∷ [])
     -- and is empty at a multiple
     ∷ (tree_in (two (a ∷ []) (pad ∷ b ∷ [])) (0 ∷ 7 ∷ []), proto 0 0 1 (read 0 0 0 ∷ []) ∷ proto 1 1 1 (Field 0 1 0 [] ∷ read 1 1 7 ∷ []) ∷ [])
-    -- no field of the first protocol is present in the second
-    ∷ (tree_in (two (a ∷ []) (choice (expr.IsPresent (codes "a")) (b ∷ []) (a ∷ []) ∷ [])) (1 ∷ 2 ∷ []), proto 0 0 1 (read 0 0 1 ∷ []) ∷ proto 1 1 1 (read 1 1 2 ∷ []) ∷ [])
-    ∷ (tree_in (two (byte (codes "n") ∷ []) (as_long_as (number_in (codes "n")) ∷ byte (codes "n") ∷ [])) (1 ∷ 2 ∷ []), proto 0 0 1 (read 0 0 1 ∷ []) ∷ proto 1 1 0 (Note NoField 1 ∷ []) ∷ rest 1 1 (2 ∷ []) ∷ [])
+    -- no field of the first protocol is present in the second, also where it has the number and the name of one of the second
+    ∷ (tree_in (two (a ∷ []) (choice (expr.IsPresent (codes "a")) (a ∷ []) (b ∷ []) ∷ [])) (1 ∷ 2 ∷ []), proto 0 0 1 (read 0 0 1 ∷ []) ∷ proto 1 1 1 (read 1 1 2 ∷ []) ∷ [])
+    ∷ (tree_in (two (byte (codes "n") ∷ []) (choice (expr.Number 0) (byte (codes "n") ∷ []) [] ∷ as_long_as (number_in (codes "n")) ∷ [])) (1 ∷ 2 ∷ []), proto 0 0 1 (read 0 0 1 ∷ []) ∷ proto 1 1 0 (Note NoField 1 ∷ []) ∷ rest 1 1 (2 ∷ []) ∷ [])
     -- the row that the first hit is, and so is its variable
     ∷ (tree_in (two (a ∷ add_one ∷ look (codes "t") 1 ∷ []) (as_long_as row_value ∷ [])) (9 ∷ 7 ∷ 8 ∷ []), proto 0 0 1 (read 0 0 9 ∷ []) ∷ proto 1 1 2 (Field 0 1 2 (7 ∷ 8 ∷ []) ∷ []) ∷ [])
     ∷ (tree_in (two (a ∷ set_x 2 ∷ []) (as_long_as x ∷ [])) (9 ∷ 7 ∷ 8 ∷ []), proto 0 0 1 (read 0 0 9 ∷ []) ∷ proto 1 1 2 (Field 0 1 2 (7 ∷ 8 ∷ []) ∷ []) ∷ [])

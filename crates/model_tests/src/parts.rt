@@ -7,49 +7,64 @@ use std::alloc::Global;
 use std::test::Fail;
 use tree::{AddFail, TreeBuilder};
 
-/// Where a field of these bytes ends; none where the positions don't stand in order.
-fn end_of(kind: &FieldKind, at: u32, limit: u32, origin: u32, n: u32) -> Option<Extent>
+/// Whether a field of these bytes that begins at `at`, in a protocol that begins at `origin`, ends so before each of
+/// the limits.
+fn ends(kind: &FieldKind, at: u32, origin: u32, n: u32, wanted: [(u32, Extent); 2]) -> bool
     requires { IsAligned kind.now }
 {
-    if origin <= at && at <= limit && limit <= 8 {
-        Some(extent(kind, b"ab\ncd;;e", at, limit, origin, n))
-    } else {
-        None
+    for (limit, end) in wanted {
+        if origin > at || at > limit || limit > 8 {
+            return false;
+        }
+        if extent(kind, b"ab\ncd;;e", at, limit, origin, n) != end {
+            return false;
+        }
     }
+    true
 }
 
 #[test]
-fn extents_at_their_limit_and_one_byte_past_it(rt: HostRuntime) -> Result<(), Fail> {
-    for (limit, end) in [(3, Extent::Size(3)), (2, Extent::Short)] {
-        assert!(rt; end_of(&FieldKind::Fixed(3), 0, limit, 0, 0) == Some(end));
-    }
+fn extents_at_their_limit_and_one_byte_past_it(rt: HostRuntime) {
+    let fixed = [(3, Extent::Size(3)), (2, Extent::Short)];
+    assert!(rt; ends(&FieldKind::Fixed(3), 0, 0, 0, fixed));
     let bit = FieldKind::Bit {
         size: 2,
         mask: 0xF0,
     };
-    for (limit, end) in [(2, Extent::Size(2)), (1, Extent::Short)] {
-        assert!(rt; end_of(&bit, 0, limit, 0, 0) == Some(end));
-    }
-    for (limit, end) in [(6, Extent::Size(5)), (5, Extent::Short)] {
-        assert!(rt; end_of(&FieldKind::Variable, 1, limit, 0, 5) == Some(end));
-    }
+    assert!(rt; ends(&bit, 0, 0, 0, [(2, Extent::Size(2)), (1, Extent::Short)]));
+    let variable = [(6, Extent::Size(5)), (5, Extent::Short)];
+    assert!(rt; ends(&FieldKind::Variable, 1, 0, 5, variable));
+    let line = [(3, Extent::Size(3)), (2, Extent::Size(2))];
+    assert!(rt; ends(&FieldKind::Line, 0, 0, 0, line));
+    let padding = [(5, Extent::Size(2)), (4, Extent::Short)];
+    assert!(rt; ends(&FieldKind::Padding(4), 3, 1, 0, padding));
+}
+
+#[test]
+fn a_token_at_its_limit_and_one_byte_past_it(rt: HostRuntime) -> Result<(), Fail> {
     let token = FieldKind::TokenEnded(Bytes::copy_of(rt.alloc(), b";;")?);
-    for (limit, end) in [(7, Extent::Size(4)), (6, Extent::Size(3))] {
-        assert!(rt; end_of(&token, 3, limit, 0, 0) == Some(end));
-    }
-    for (limit, end) in [(3, Extent::Size(3)), (2, Extent::Size(2))] {
-        assert!(rt; end_of(&FieldKind::Line, 0, limit, 0, 0) == Some(end));
-    }
-    for (limit, end) in [(5, Extent::Size(2)), (4, Extent::Short)] {
-        assert!(rt; end_of(&FieldKind::Padding(4), 3, limit, 1, 0) == Some(end));
-    }
+    let found = ends(
+        &token,
+        3,
+        0,
+        0,
+        [(7, Extent::Size(4)), (6, Extent::Size(3))],
+    );
+    assert!(rt; found);
     Ok(())
+}
+
+fn bits_are(bytes: &[u8], mask: u32, wanted: &[u8]) -> bool {
+    !bytes.is_empty()
+        && bytes.len() <= 4
+        && mask != 0
+        && bit_value(bytes, mask).as_slice() == wanted
 }
 
 #[test]
 fn bit_values_are_shifted_and_keep_their_width(rt: HostRuntime) {
-    assert!(rt; bit_value(&[0x12, 0x34], 0x0FF0).as_slice() == [0x00, 0x23].as_slice());
-    assert!(rt; bit_value(&[0x80], 0xC0).as_slice() == [0x02].as_slice());
+    assert!(rt; bits_are(&[0x12, 0x34], 0x0FF0, &[0x00, 0x23]));
+    assert!(rt; bits_are(&[0x80], 0xC0, &[0x02]));
 }
 
 /// A block with a field, a block and in that a block with a field, in one protocol.
@@ -71,24 +86,28 @@ fn blocks_in_blocks(alloc: Global) -> Result<PacketTree, AddFail> {
 /// The nodes of the block at this place, where it has this number, position and size.
 fn block_in(nodes: &Nodes, at: usize, wanted: (u32, u32, u32)) -> Option<&Nodes> {
     match nodes.get(at) {
-        Some(Node::Block {
-            block,
-            pos,
-            size,
-            nodes,
-        }) if (*block, *pos, *size) == wanted => Some(nodes),
+        Some(
+            Node::Block {
+                block,
+                pos,
+                size,
+                nodes,
+            },
+        ) if (*block, *pos, *size) == wanted => Some(nodes),
         _ => None,
     }
 }
 
 fn has_field(nodes: &Nodes, at: usize, wanted: (u32, u32, u32), bytes: &[u8]) -> bool {
     match nodes.get(at) {
-        Some(Node::Field {
-            field,
-            pos,
-            size,
-            value,
-        }) => (*field, *pos, *size) == wanted && value.as_slice() == bytes,
+        Some(
+            Node::Field {
+                field,
+                pos,
+                size,
+                value,
+            },
+        ) => (*field, *pos, *size) == wanted && value.as_slice() == bytes,
         _ => false,
     }
 }
@@ -165,14 +184,27 @@ fn the_first_case_that_holds_the_number(rt: HostRuntime) {
     }
 }
 
+/// The first protocol is entered in an empty packet, and no second one.
+fn ends_in_an_empty_packet(chain: &mut Chain) -> bool {
+    chain.enter(0, 0, 0) == Entered::Go && chain.enter(1, 0, 0) == Entered::AtEnd
+}
+
+/// Behind one that is entered, 31 more are, one at each byte.
+fn fills(chain: &mut Chain) -> bool {
+    for at in 1..32u32 {
+        if chain.enter(1, at, 32) != Entered::Go {
+            return false;
+        }
+    }
+    true
+}
+
+fn is_full(chain: &mut Chain) -> bool {
+    chain.enter(1, 31, 32) == Entered::TooMany && chain.enter(1, 32, 32) == Entered::AtEnd
+}
+
 #[test]
 fn a_chain_ends_where_nothing_is_left(rt: HostRuntime) {
     let mut chain = Chain::start();
-    assert!(rt; chain.enter(0, 0, 0) == Entered::Go);
-    assert!(rt; chain.enter(1, 0, 0) == Entered::AtEnd);
-    for at in 1..32u32 {
-        assert!(rt; chain.enter(1, at, 32) == Entered::Go);
-    }
-    assert!(rt; chain.enter(1, 31, 32) == Entered::TooMany);
-    assert!(rt; chain.enter(1, 32, 32) == Entered::AtEnd);
+    assert!(rt; ends_in_an_empty_packet(&mut chain) && fills(&mut chain) && is_full(&mut chain));
 }

@@ -1,4 +1,4 @@
-use Rattle.db_examples.proofs.Values.{forms_give}
+use Rattle.db_examples.proofs.Expressions.{forms_give}
 use Rattle.db_examples.proofs.forms_give.Goals as goal
 
 pub returns : goal.returns

@@ -1,4 +1,4 @@
-use Rattle.db_examples.proofs.Values.{names_mean}
+use Rattle.db_examples.proofs.Expressions.{names_mean}
 use Rattle.db_examples.proofs.names_mean.Goals as goal
 
 pub returns : goal.returns

@@ -1,4 +1,4 @@
-use Rattle.db_examples.proofs.Values.{operators_give}
+use Rattle.db_examples.proofs.Expressions.{operators_give}
 use Rattle.db_examples.proofs.operators_give.Goals as goal
 
 pub returns : goal.returns

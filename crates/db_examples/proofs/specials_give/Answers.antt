@@ -1,4 +1,4 @@
-use Rattle.db_examples.proofs.Values.{specials_give}
+use Rattle.db_examples.proofs.Expressions.{specials_give}
 use Rattle.db_examples.proofs.specials_give.Goals as goal
 
 pub returns : goal.returns

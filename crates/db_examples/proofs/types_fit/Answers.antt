@@ -1,4 +1,4 @@
-use Rattle.db_examples.proofs.Values.{types_fit}
+use Rattle.db_examples.proofs.Expressions.{types_fit}
 use Rattle.db_examples.proofs.types_fit.Goals as goal
 
 pub returns : goal.returns
