@@ -1,7 +1,7 @@
 ghost use Rattle.std.specs.Prelude.{◌≡◌};
 ghost use Rattle.db_model.specs.Numbering.{all_names, names_of, names_in, field_names};
 ghost use Rattle.db_model.specs.Typing.{is_among};
-ghost use Rattle.numbering.specs.Parts.{names_of_blocks, names_of_cases, names_of_format, names_of_other};
+ghost use Rattle.db_model.specs.FieldNames.{names_of_blocks, names_of_cases, names_of_format, names_of_other};
 
 use db_model::{Branch, Case, Element, Format, NamedBlock, Protocol};
 
@@ -39,7 +39,7 @@ fn in_blocks(blocks: &[NamedBlock], name: &[u8]) -> bool
     false
 }
 
-#[cycle(by_name)]
+#[cycle(fields)]
 fn in_elements(elements: &[Element], name: &[u8]) -> bool
     ensures { result ≡ is_among name.now (names_in elements.now) }
 {
@@ -51,7 +51,7 @@ fn in_elements(elements: &[Element], name: &[u8]) -> bool
     false
 }
 
-#[cycle(by_name)]
+#[cycle(fields)]
 fn in_element(element: &Element, name: &[u8]) -> bool
     ensures { result ≡ is_among name.now (names_of element.now) }
 {
@@ -77,7 +77,7 @@ fn in_element(element: &Element, name: &[u8]) -> bool
     }
 }
 
-#[cycle(by_name)]
+#[cycle(fields)]
 fn in_cases(cases: &[Case], name: &[u8]) -> bool
     ensures { result ≡ is_among name.now (names_of_cases cases.now) }
 {
@@ -89,7 +89,7 @@ fn in_cases(cases: &[Case], name: &[u8]) -> bool
     false
 }
 
-#[cycle(by_name)]
+#[cycle(fields)]
 fn in_branch(branch: &Option<Branch>, name: &[u8]) -> bool
     ensures { result ≡ is_among name.now (names_of_other branch.now) }
 {

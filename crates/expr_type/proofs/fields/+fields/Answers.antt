@@ -1,7 +1,7 @@
-use Rattle.numbering.proofs.Names.{names_field, names_block, names_loop, names_switch, names_if, names_include, names_control, names_assign, names_update, names_next, among_one, here_is, there_is, empty_is}
+use Rattle.db_model.proofs.FieldNames.{names_field, names_block, names_loop, names_switch, names_if, names_include, names_control, names_assign, names_update, names_next, among_one, here_is, there_is, empty_is}
 use Rattle.db_model.specs.Numbering.{names_in}
-use Rattle.numbering.specs.Parts.{names_of_cases, names_of_other}
-use Rattle.numbering.proofs.by_name.+by_name.Goals as goal
+use Rattle.db_model.specs.FieldNames.{names_of_cases, names_of_other}
+use Rattle.expr_type.proofs.fields.+fields.Goals as goal
 
 pub in_element-returns-in-Field : goal.in_element-returns-in-Field
 in_element-returns-in-Field t c = let e = names_field c.in-Field.line c.in-Field.own c.in-Field.form c.in-Field.longname c.in-Field.show in let f = among_one c.args.name.now c.in-Field.own in let b = c.as_slice.ensures.bytes in let q = c.eq.ensures in cc
