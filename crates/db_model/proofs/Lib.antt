@@ -1,6 +1,7 @@
 pub mod Play
 pub mod Over
 pub mod Replay
+pub mod ReservedWords
 pub mod Serial
 pub mod Kept
 pub mod LawsHold

@@ -7,10 +7,10 @@ use Rattle.db_model.specs.declared.expression.Expr.TheOpen as layer
 use Rattle.db_model.specs.declared.expression.Operator.{Operator}
 use Rattle.db_model.specs.declared.expression.Operator.TheVariants as op
 use Rattle.db_model.specs.Folds.{fold_expr}
-use Rattle.db_model.specs.Forms.{is_between}
+use Rattle.db_model.specs.Forms.{is_between, is_expression}
 use Rattle.db_model.specs.Names.{Text}
 use Rattle.expr_text.specs.declared.limits.TheConstants.{MOST_EXPRESSION_BYTES}
-use Rattle.expr_text.specs.Refusal.{IsSpelled, IsSmall, IsText, IsRefused}
+use Rattle.expr_text.specs.Refusal.{IsSpelled, IsText, IsRefused}
 
 -- ---- texts
 
@@ -141,22 +141,21 @@ printed e = (printing e).bytes
 
 -- ---- what it says of texts
 
--- the grammar gives the expression
-pub record IsOfGrammar (e : Expr) : Type 0 where
-  pub bytes : List ℕ
-  pub spelled : IsSpelled bytes e
-
--- the canonical text of an expression of the grammar spells it
+-- the canonical text of a well-formed expression spells it
 abbrev pub ReadsBack : Type 0
-ReadsBack = (e : Expr) → IsOfGrammar e → IsSpelled (printed e) e
+ReadsBack = (e : Expr) → is_expression e ≡ true → IsSpelled (printed e) e
 
--- no two expressions of the grammar have one canonical text
+-- so does that of each expression that some text spells, however large it is
+abbrev pub ReadsBackSpelled : Type 0
+ReadsBackSpelled = (e : Expr) (bytes : List ℕ) → IsSpelled bytes e → IsSpelled (printed e) e
+
+-- no two expressions that some text spells have one canonical text
 abbrev pub PrintsApart : Type 0
-PrintsApart = (d e : Expr) → IsOfGrammar d → IsOfGrammar e → printed d ≡ printed e → d ≡ e
+PrintsApart = (d e : Expr) (bytes others : List ℕ) → IsSpelled bytes d → IsSpelled others e → printed d ≡ printed e → d ≡ e
 
--- one that is small enough is the text's expression where the text isn't too long, and a longer text is refused
+-- where it isn't too long it is the text of a well-formed expression, and a longer text is refused
 abbrev pub PrintsTexts : Type 0
-PrintsTexts = (e : Expr) → IsOfGrammar e → IsSmall e → length (printed e) ≤ MOST_EXPRESSION_BYTES → IsText (printed e) e
+PrintsTexts = (e : Expr) → is_expression e ≡ true → length (printed e) ≤ MOST_EXPRESSION_BYTES → IsText (printed e) e
 
 abbrev pub RefusesLong : Type 0
 RefusesLong = (e : Expr) → MOST_EXPRESSION_BYTES < length (printed e) → IsRefused (printed e) 0 4

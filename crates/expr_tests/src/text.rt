@@ -1,5 +1,5 @@
-use super::*;
 use db_model::NoMemory;
+use expr_text::{ExprFail, parse_expr, print_expr};
 use std::alloc::{AllocError, Global};
 use std::test::Fail;
 
@@ -7,7 +7,7 @@ use std::test::Fail;
 type Fault = Option<(u32, u8)>;
 
 /// Texts with their faults, or none where they are expressions.
-const CASES: [(&[u8], Fault); 101] = [
+const CASES: [(&[u8], Fault); 102] = [
     (b"1+2*3", None),
     (b"3-5", None),
     (b"7 mod 0", None),
@@ -115,6 +115,7 @@ const CASES: [(&[u8], Fault); 101] = [
     (b"not a == b", None),
     (b"a == (not b)", None),
     (b"a == not b", Some((5, 1))),
+    (EVERY_FORM, None),
 ];
 
 /// A text with every form.
@@ -122,63 +123,16 @@ const EVERY_FORM: &[u8] = b"checkupdatelookuptable(t, #p, a[1:2]) or not isprese
 buf2int('\\x01') + buflen($x) - 2 * 3 / 4 mod 5 bitwor 6 bitwand 7 ge $t.d \
 or hasstring(int2buf(1, 2), 'a') == checklookuptable(t)";
 
-fn fault_of(alloc: Global, text: &[u8]) -> Result<Fault, NoMemory> {
-    match parse_expr(alloc, text) {
-        Ok(_) => Ok(None),
-        Err(ExprFail::Fault { at, code }) => Ok(Some((at, code))),
-        Err(ExprFail::NoMemory) => Err(NoMemory),
-    }
-}
-
-/// A front, a piece so many times, and a back.
-fn repeated(
-    alloc: Global,
-    front: &[u8],
-    piece: &[u8],
-    count: usize,
-    back: &[u8],
-) -> Result<Vec<u8>, AllocError> {
-    let mut text = Vec::from_slice(alloc, front)?;
-    for _ in 0..count {
-        text.extend_from_slice(piece)?;
-    }
-    text.extend_from_slice(back)?;
-    Ok(text)
-}
-
-#[test]
-fn each_fault_has_its_place_and_code(rt: HostRuntime) -> Result<(), Fail> {
-    for (text, fault) in &CASES {
-        assert_eq!(rt; fault_of(rt.alloc(), text)?, *fault);
-    }
-    Ok(())
-}
-
-#[test]
-fn a_text_with_every_form_is_an_expression(rt: HostRuntime) -> Result<(), Fail> {
-    assert!(rt; parse_expr(rt.alloc(), EVERY_FORM).is_ok());
-    Ok(())
-}
-
-#[test]
-fn limits_are_where_they_are_said_to_be(rt: HostRuntime) -> Result<(), Fail> {
-    let alloc = rt.alloc();
-    let longest = repeated(alloc, b"1", b" ", 1_023, b"")?;
-    assert_eq!(rt; fault_of(alloc, longest.as_slice())?, None);
-    let too_long = repeated(alloc, b"1", b" ", 1_024, b"")?;
-    assert_eq!(rt; fault_of(alloc, too_long.as_slice())?, Some((0, 4)));
-    let open = repeated(alloc, b"", b"(", 1_024, b"")?;
-    assert_eq!(rt; fault_of(alloc, open.as_slice())?, Some((1_024, 2)));
-    let most_nodes = repeated(alloc, b"checklookuptable(t", b",1", 255, b")")?;
-    assert_eq!(rt; fault_of(alloc, most_nodes.as_slice())?, None);
-    let too_many_nodes = repeated(alloc, b"checklookuptable(t", b",1", 256, b")")?;
-    assert_eq!(rt; fault_of(alloc, too_many_nodes.as_slice())?, Some((531, 4)));
-    let deepest = repeated(alloc, b"((", b"not ", 31, b"1))")?;
-    assert_eq!(rt; fault_of(alloc, deepest.as_slice())?, None);
-    let too_deep = repeated(alloc, b"", b"not ", 32, b"1")?;
-    assert_eq!(rt; fault_of(alloc, too_deep.as_slice())?, Some((129, 4)));
-    Ok(())
-}
+/// Texts at the limits, each a front, a piece so many times, and a back.
+const LIMITS: [(&[u8], &[u8], usize, &[u8], Fault); 7] = [
+    (b"1", b" ", 1_023, b"", None),
+    (b"1", b" ", 1_024, b"", Some((0, 4))),
+    (b"", b"(", 1_024, b"", Some((1_024, 2))),
+    (b"checklookuptable(t", b",1", 255, b")", None),
+    (b"checklookuptable(t", b",1", 256, b")", Some((531, 4))),
+    (b"((", b"not ", 31, b"1))", None),
+    (b"", b"not ", 32, b"1", Some((129, 4))),
+];
 
 /// Texts with the canonical texts of their expressions.
 const CANONICAL: [(&[u8], &[u8]); 19] = [
@@ -206,20 +160,63 @@ const CANONICAL: [(&[u8], &[u8]); 19] = [
     (b"checkupdatelookuptable(t)", b"checkupdatelookuptable(t)"),
 ];
 
-fn canonical_of(alloc: Global, text: &[u8]) -> Result<Vec<u8>, ExprFail> {
+/// Whether a text has exactly this fault, or none.
+fn has_fault(alloc: Global, text: &[u8], fault: Fault) -> Result<bool, NoMemory> {
+    match parse_expr(alloc, text) {
+        Ok(_) => Ok(fault.is_none()),
+        Err(ExprFail::Fault { at, code }) => Ok(fault == Some((at, code))),
+        Err(ExprFail::NoMemory) => Err(NoMemory),
+    }
+}
+
+fn repeated(
+    alloc: Global,
+    front: &[u8],
+    piece: &[u8],
+    count: usize,
+    back: &[u8],
+) -> Result<Vec<u8>, AllocError> {
+    let mut text = Vec::from_slice(alloc, front)?;
+    for _ in 0..count {
+        text.extend_from_slice(piece)?;
+    }
+    text.extend_from_slice(back)?;
+    Ok(text)
+}
+
+/// Whether a text is an expression with this canonical text.
+fn has_canonical(alloc: Global, text: &[u8], canonical: &[u8]) -> Result<bool, ExprFail> {
     let e = parse_expr(alloc, text)?;
-    Ok(print_expr(alloc, &e)?)
+    let printed = print_expr(alloc, &e)?;
+    Ok(printed.as_slice() == canonical)
 }
 
 #[test]
-fn canonical_texts_are_printed_and_read_back(rt: HostRuntime) {
-    for (text, canonical) in &CANONICAL {
-        for written in [*text, *canonical] {
-            let printed = canonical_of(rt.alloc(), written);
-            assert!(rt;
-                printed.is_ok_and(|t| t.as_slice() == *canonical),
-                "{canonical:?}"
-            );
-        }
+fn each_fault_has_its_place_and_code(rt: HostRuntime) -> Result<(), Fail> {
+    for (text, fault) in &CASES {
+        let is_so = has_fault(rt.alloc(), text, *fault)?;
+        assert!(rt; is_so);
     }
+    Ok(())
+}
+
+#[test]
+fn limits_are_where_they_are_said_to_be(rt: HostRuntime) -> Result<(), Fail> {
+    for (front, piece, count, back, fault) in &LIMITS {
+        let text = repeated(rt.alloc(), front, piece, *count, back)?;
+        let is_so = has_fault(rt.alloc(), text.as_slice(), *fault)?;
+        assert!(rt; is_so);
+    }
+    Ok(())
+}
+
+#[test]
+fn canonical_texts_are_printed_and_read_back(rt: HostRuntime) -> Result<(), Fail> {
+    for (text, canonical) in &CANONICAL {
+        let is_printed = has_canonical(rt.alloc(), text, canonical)?;
+        assert!(rt; is_printed);
+        let is_read_back = has_canonical(rt.alloc(), canonical, canonical)?;
+        assert!(rt; is_read_back);
+    }
+    Ok(())
 }
