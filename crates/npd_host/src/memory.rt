@@ -228,6 +228,3 @@ impl Host for MemHost {
         Ok(bytes.len())
     }
 }
-
-#[cfg(test)]
-mod tests;
