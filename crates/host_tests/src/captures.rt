@@ -23,7 +23,7 @@ enum Seen {
     Nothing,
 }
 
-fn seen_fail(fail: CapFail) -> Seen {
+fn refusal_of(fail: CapFail) -> Seen {
     match fail {
         CapFail::Broken => Seen::Broken,
         CapFail::ReadFault => Seen::ReadFault,
@@ -31,7 +31,7 @@ fn seen_fail(fail: CapFail) -> Seen {
     }
 }
 
-fn seen(answer: Result<Next, CapFail>) -> Seen {
+fn answer_of(answer: Result<Next, CapFail>) -> Seen {
     match answer {
         Ok(Next::Packet(packet)) => {
             let is_numbered = packet.number == 0 && packet.link == 1 && packet.length == 60;
@@ -43,18 +43,18 @@ fn seen(answer: Result<Next, CapFail>) -> Seen {
             }
         }
         Ok(Next::End) => Seen::End,
-        Err(fail) => seen_fail(fail),
+        Err(fail) => refusal_of(fail),
     }
 }
 
-fn next<H: Host>(host: &mut H, reader: &mut CapReader) -> Seen
+fn next_seen<H: Host>(host: &mut H, reader: &mut CapReader) -> Seen
     requires usable { IsTrue (is_usable reader.old.state) }
     requires given { IsSome ((H.inputs host.old).name reader.old.id.0) }
     requires reach { InReach reader.old (H.inputs host.old) }
     ensures given { IsSome ((H.inputs host.new).name reader.new.id.0) }
     ensures reach { InReach reader.new (H.inputs host.new) }
 {
-    seen(reader.next(host))
+    answer_of(reader.next(host))
 }
 
 /// What the header and two calls of `next` come to.
@@ -62,13 +62,13 @@ fn seen_twice<H: Host>(alloc: Global, host: &mut H) -> Result<[Seen; 2], HostFai
     let id = host.open_in("cap")?;
     let mut reader = match CapReader::begin(alloc, host, id) {
         Ok(reader) => reader,
-        Err(fail) => return Ok([seen_fail(fail), Seen::Nothing]),
+        Err(fail) => return Ok([refusal_of(fail), Seen::Nothing]),
     };
-    let first = next(host, &mut reader);
+    let first = next_seen(host, &mut reader);
     if !reader.usable() {
         return Ok([first, Seen::Nothing]);
     }
-    Ok([first, next(host, &mut reader)])
+    Ok([first, next_seen(host, &mut reader)])
 }
 
 /// The same of the capture's first bytes, where a read of this number fails.

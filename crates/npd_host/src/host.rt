@@ -60,7 +60,8 @@ pub trait Host {
     /// Opens an input at its first byte.
     fn open_in(&mut self, name: &str) -> Result<InId, HostFail>
         ensures given { IfOk result (λ id.
-            OpensInput (inputs self.old) (inputs self.new) id.0 name.now (files self.old name.now)) }
+            OpensInput (inputs self.old) (inputs self.new) id.0 name.now
+            (files self.old name.now)) }
         ensures refused { OnErr result (inputs self.new ≡ inputs self.old) }
         ensures frame { MovesInputsOnly outputs files faults self.old self.new }
         ensures cause { IsErrOf result HostFail.Failed
@@ -71,7 +72,8 @@ pub trait Host {
         requires given { IsSome ((inputs self.old).name id.0) }
         requires room { 0 < length buf.old }
         ensures bound { IfOk result (λ n. n ≤ length buf.new) }
-        ensures gave { IfOk result (λ n. Gave id.0 (inputs self.old) (inputs self.new) (take n buf.new)) }
+        ensures gave { IfOk result (λ n.
+            Gave id.0 (inputs self.old) (inputs self.new) (take n buf.new)) }
         ensures end { IfOk result (λ n. n ≡ 0 → IsAtEnd ((inputs self.new).held id.0)) }
         ensures refused { OnErr result (inputs self.new ≡ inputs self.old) }
         ensures frame { MovesInputsOnly outputs files faults self.old self.new }
@@ -80,7 +82,8 @@ pub trait Host {
 
     /// Begins an empty output.
     fn open_out(&mut self, name: &str) -> Result<OutId, HostFail>
-        ensures given { IfOk result (λ id. OpensOutput (outputs self.old) (outputs self.new) id.0 name.now) }
+        ensures given { IfOk result (λ id.
+            OpensOutput (outputs self.old) (outputs self.new) id.0 name.now) }
         ensures refused { OnErr result (outputs self.new ≡ outputs self.old) }
         ensures frame { MovesOutputsOnly inputs files faults self.old self.new }
         ensures cause { IsErrOf result HostFail.Failed
@@ -91,12 +94,14 @@ pub trait Host {
         requires given { IsSome ((outputs self.old).name id.0) }
         requires some { 0 < length bytes.now }
         ensures bound { IfOk result (λ n. (0 < n) × (n ≤ length bytes.now)) }
-        ensures took { IfOk result (λ n. Took id.0 (outputs self.old) (outputs self.new) (take n bytes.now)) }
+        ensures took { IfOk result (λ n.
+            Took id.0 (outputs self.old) (outputs self.new) (take n bytes.now)) }
         ensures refused { OnErr result (outputs self.new ≡ outputs self.old) }
         ensures frame { MovesOutputsOnly inputs files faults self.old self.new }
         ensures cause { IsErrOf result HostFail.Failed
             → CountRose CallKind.Write ((outputs self.old).name id.0) faults self.old self.new };
 
     /// What an input is told to hold has fewer than 2^64 bytes.
-    ghost bounded: { (host : Self) (id : ℕ) → IfSome ((inputs host).held id) (λ bytes. length bytes < 2 ^ 64) };
+    ghost bounded: { (host : Self) (id : ℕ) → IfSome ((inputs host).held id) (λ bytes.
+        length bytes < 2 ^ 64) };
 }

@@ -74,7 +74,8 @@ impl MemHost {
 
     /// Adds an input, or replaces the one of that name. An input that is open still holds what it held.
     pub fn put_file(&mut self, name: &str, bytes: &[u8]) -> Result<(), NoMemory>
-        ensures put { OnOk result (Puts (host_files self.old) (host_files self.new) name.now bytes.now) }
+        ensures put { OnOk result
+            (Puts (host_files self.old) (host_files self.new) name.now bytes.now) }
         ensures rest { self.new ≡ record self.old { files = self.new.files } }
         ensures left { OnErr result (self.new ≡ self.old) }
     {
@@ -125,11 +126,13 @@ impl Host for MemHost {
         ensures place { IfOk result (λ id. id.0 ≡ length self.old.inputs) }
         ensures only_told { IsErrOf result HostFail.Failed
             → IsDue CallKind.OpenIn self.old ⊎ (host_files self.old name.now ≡ None) }
-        ensures as_told { IsDue CallKind.OpenIn self.old ⊎ (host_files self.old name.now ≡ None) → IsErr result }
+        ensures as_told { IsDue CallKind.OpenIn self.old ⊎ (host_files self.old name.now ≡ None)
+            → IsErr result }
         ensures left { OnErr result (self.new.inputs ≡ self.old.inputs) }
-        ensures rest { self.new ≡ record (after_call CallKind.OpenIn (Some name.now) result self.old) {
-          inputs = self.new.inputs;
-        } }
+        ensures rest { self.new
+            ≡ record (after_call CallKind.OpenIn (Some name.now) result self.old) {
+              inputs = self.new.inputs;
+            } }
         ensures sure { (self.old.planned ≡ []) × IsSome (host_files self.old name.now)
             → IsOkUnless result HostFail.NoMemory × (self.new.failed ≡ self.old.failed) }
     {
@@ -146,12 +149,14 @@ impl Host for MemHost {
         requires given { IsSome ((host_inputs self.old).name id.0) }
         requires room { 0 < length buf.old }
         ensures bound { IfOk result (λ n. n ≤ length buf.new) }
-        ensures gave { IfOk result (λ n. Gave id.0 (host_inputs self.old) (host_inputs self.new) (take n buf.new)) }
+        ensures gave { IfOk result (λ n.
+            Gave id.0 (host_inputs self.old) (host_inputs self.new) (take n buf.new)) }
         ensures end { IfOk result (λ n. n ≡ 0 → IsAtEnd ((host_inputs self.new).held id.0)) }
         ensures refused { OnErr result (host_inputs self.new ≡ host_inputs self.old) }
         ensures frame { MovesInputsOnly host_outputs host_files host_faults self.old self.new }
         ensures cause { IsErrOf result HostFail.Failed
-            → CountRose CallKind.Read ((host_inputs self.old).name id.0) host_faults self.old self.new }
+            → CountRose CallKind.Read ((host_inputs self.old).name id.0)
+            host_faults self.old self.new }
 
         // Beyond what every host keeps: it fails where it was told, and nowhere else.
         ensures amount { IfOk result (λ n. IsSomeAnd ((host_inputs self.old).held id.0) (λ bytes.
@@ -185,9 +190,10 @@ impl Host for MemHost {
         ensures only_told { IsErrOf result HostFail.Failed → IsDue CallKind.OpenOut self.old }
         ensures as_told { IsDue CallKind.OpenOut self.old → IsErr result }
         ensures left { OnErr result (self.new.outputs ≡ self.old.outputs) }
-        ensures rest { self.new ≡ record (after_call CallKind.OpenOut (Some name.now) result self.old) {
-          outputs = self.new.outputs;
-        } }
+        ensures rest { self.new
+            ≡ record (after_call CallKind.OpenOut (Some name.now) result self.old) {
+              outputs = self.new.outputs;
+            } }
         ensures sure { self.old.planned ≡ []
             → IsOkUnless result HostFail.NoMemory × (self.new.failed ≡ self.old.failed) }
     {
@@ -206,7 +212,8 @@ impl Host for MemHost {
         ensures refused { OnErr result (host_outputs self.new ≡ host_outputs self.old) }
         ensures frame { MovesOutputsOnly host_inputs host_files host_faults self.old self.new }
         ensures cause { IsErrOf result HostFail.Failed
-            → CountRose CallKind.Write ((host_outputs self.old).name id.0) host_faults self.old self.new }
+            → CountRose CallKind.Write ((host_outputs self.old).name id.0)
+            host_faults self.old self.new }
 
         // Beyond what every host keeps: it fails where it was told, and nowhere else.
         ensures amount { IfOk result (λ n. n ≡ length bytes.now) }
@@ -214,7 +221,8 @@ impl Host for MemHost {
         ensures as_told { IsDue CallKind.Write self.old → IsErr result }
         ensures left { OnErr result (self.new.outputs ≡ self.old.outputs) }
         ensures rest { self.new
-            ≡ record (after_call CallKind.Write ((host_outputs self.old).name id.0) result self.old) {
+            ≡ record (after_call CallKind.Write ((host_outputs self.old).name id.0)
+            result self.old) {
               outputs = self.new.outputs;
             } }
         ensures sure { self.old.planned ≡ []

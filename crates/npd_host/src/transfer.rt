@@ -10,9 +10,11 @@ use crate::host::{Host, HostFail, InId, OutId};
 pub fn fill<H: Host>(host: &mut H, id: InId, buf: &mut [u8]) -> Result<usize, HostFail>
     requires { IsSome ((H.inputs host.old).name id.0) }
     ensures bound { IfOk result (λ n. n ≤ length buf.new) }
-    ensures gave { IfOk result (λ n. Gave id.0 (H.inputs host.old) (H.inputs host.new) (take n buf.new)) }
+    ensures gave { IfOk result (λ n.
+        Gave id.0 (H.inputs host.old) (H.inputs host.new) (take n buf.new)) }
     ensures end { IfOk result (λ n. n < length buf.new → IsAtEnd ((H.inputs host.new).held id.0)) }
-    ensures fewer { OnErr result (GaveFewer id.0 (H.inputs host.old) (H.inputs host.new) (length buf.new)) }
+    ensures fewer { OnErr result
+        (GaveFewer id.0 (H.inputs host.old) (H.inputs host.new) (length buf.new)) }
     ensures frame { MovesInputsOnly H.outputs H.files H.faults host.old host.new }
     ensures cause { IsErrOf result HostFail.Failed
         → CountRose CallKind.Read ((H.inputs host.old).name id.0) H.faults host.old host.new }
@@ -32,7 +34,8 @@ pub fn fill<H: Host>(host: &mut H, id: InId, buf: &mut [u8]) -> Result<usize, Ho
 pub fn write_all<H: Host>(host: &mut H, id: OutId, bytes: &[u8]) -> Result<(), HostFail>
     requires { IsSome ((H.outputs host.old).name id.0) }
     ensures took { OnOk result (Took id.0 (H.outputs host.old) (H.outputs host.new) bytes.now) }
-    ensures part { OnErr result (TookPart id.0 (H.outputs host.old) (H.outputs host.new) bytes.now) }
+    ensures part { OnErr result
+        (TookPart id.0 (H.outputs host.old) (H.outputs host.new) bytes.now) }
     ensures frame { MovesOutputsOnly H.inputs H.files H.faults host.old host.new }
     ensures cause { IsErrOf result HostFail.Failed
         → CountRose CallKind.Write ((H.outputs host.old).name id.0) H.faults host.old host.new }

@@ -36,12 +36,14 @@ impl CapReader {
     /// Reads the file header. Broken: the input has none. ReadFault: the host could not read it.
     pub fn begin<H: Host>(alloc: Global, host: &mut H, id: InId) -> Result<CapReader, CapFail>
         requires { IsSome ((H.inputs host.old).name id.0) }
-        ensures begins { IfSome ((H.inputs host.old).held id.0) (λ bytes. Begins result bytes (H.inputs host.new)) }
+        ensures begins { IfSome ((H.inputs host.old).held id.0) (λ bytes.
+            Begins result bytes (H.inputs host.new)) }
         ensures id { IfOk result (λ r. r.id ≡ id) }
         ensures number { IfOk result (λ r. r.number ≡ 0) }
         ensures usable { IfOk result (λ r. IsTrue (is_usable r.state)) }
         ensures reach { IfOk result (λ r. InReach r (H.inputs host.new)) }
-        ensures inputs { OnlyRead id.0 (H.inputs host.old) (H.inputs host.new) (TakesHeader result) }
+        ensures inputs { OnlyRead id.0 (H.inputs host.old) (H.inputs host.new)
+            (TakesHeader result) }
         ensures frame { MovesInputsOnly H.outputs H.files H.faults host.old host.new }
         ensures cause { IsErrOf result CapFail.ReadFault
             → CountRose CallKind.Read ((H.inputs host.old).name id.0) H.faults host.old host.new }
@@ -85,13 +87,15 @@ impl CapReader {
         ensures id { self.new.id ≡ self.old.id }
         ensures usable { is_usable self.new.state ≡ usable_after result }
         ensures reach { InReach self.new (H.inputs host.new) }
-        ensures again { self.old.state ≡ State.Broken → (result ≡ Err CapFail.Broken) × (host.new ≡ host.old) }
+        ensures again { self.old.state ≡ State.Broken
+            → (result ≡ Err CapFail.Broken) × (host.new ≡ host.old) }
         ensures stamp { IfOk result (IsStampedBelow (43 * 10 ^ 17)) }
         ensures inputs { OnlyRead self.old.id.0 (H.inputs host.old) (H.inputs host.new)
             (Takes result self.old.form self.old.number) }
         ensures frame { MovesInputsOnly H.outputs H.files H.faults host.old host.new }
         ensures cause { IsErrOf result CapFail.ReadFault
-            → CountRose CallKind.Read ((H.inputs host.old).name self.old.id.0) H.faults host.old host.new }
+            → CountRose CallKind.Read ((H.inputs host.old).name self.old.id.0)
+            H.faults host.old host.new }
     {
         if let State::Broken = self.state {
             return Err(CapFail::Broken);

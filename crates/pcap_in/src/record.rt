@@ -77,7 +77,8 @@ pub fn read_record<H: Host>(
     ensures finds { IfSome ((H.inputs host.old).held id.0) (λ held.
         Finds result (record_at form number held) ((H.inputs host.new).held id.0)) }
     ensures stamp { IsStamped result (43 * 10 ^ 17) }
-    ensures inputs { OnlyRead id.0 (H.inputs host.old) (H.inputs host.new) (TakesRecord result form number) }
+    ensures inputs { OnlyRead id.0 (H.inputs host.old) (H.inputs host.new)
+        (TakesRecord result form number) }
     ensures frame { MovesInputsOnly H.outputs H.files H.faults host.old host.new }
     ensures cause { IsErrOf result HostFail.Failed
         → CountRose CallKind.Read ((H.inputs host.old).name id.0) H.faults host.old host.new }

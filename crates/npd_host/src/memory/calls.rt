@@ -39,7 +39,8 @@ pub fn note(alloc: Global, failed: &mut Vec<FailedCall>, kind: CallKind, name: &
         failed.new.items ≡ failed_with result call failed.old.items }
     ensures later { NoneFalls (faults_in failed.old.items) (faults_in failed.new.items) }
     ensures cause { result ≡ HostFail.Failed
-        → Rose (faults_in failed.old.items kind name.now) (faults_in failed.new.items kind name.now) }
+        → Rose (faults_in failed.old.items kind name.now)
+        (faults_in failed.new.items kind name.now) }
 {
     match push(alloc, failed, kind, name) {
         Ok(()) => HostFail::Failed,

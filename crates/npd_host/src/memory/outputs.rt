@@ -32,7 +32,8 @@ pub fn name(outputs: &[NamedBytes], id: OutId) -> &str
 /// Adds bytes at the end of an output.
 pub fn append(outputs: &mut [NamedBytes], id: OutId, bytes: &[u8]) -> Result<(), NoMemory>
     requires { IsSome ((outputs_at outputs.old).name id.0) }
-    ensures took { OnOk result (Took id.0 (outputs_at outputs.old) (outputs_at outputs.new) bytes.now) }
+    ensures took { OnOk result
+        (Took id.0 (outputs_at outputs.old) (outputs_at outputs.new) bytes.now) }
     ensures left { OnErr result (outputs.new ≡ outputs.old) }
 {
     let output = &mut outputs[id.0 as usize];
