@@ -20,7 +20,7 @@ use Rattle.db_text.specs.Text.{Placed, is_space, is_letter, is_name_byte, is_nam
 use Rattle.db_text.specs.Tree.{attribute_of, element_of}
 use Rattle.db_text.specs.Grammar.{Stands, Spaces, no_space, space, Gap, gap, Mark, no_mark, mark, Declaration, no_declaration, declaration, Comment, comment, Misc, no_misc, misc_space, misc_comment, Chars, no_char, char, entity, OneAttribute, one_attribute, Attributes, no_attribute, attribute, Opening, opening, Element, empty, nested, Content, no_content, content_space, content_comment, content_element, Document, document}
 use Rattle.db_text.specs.Machine.{Stack, notes, frame, parts, State, state, at, start, doing, go, when, place_in, front, begin, between, opens, closes, not_letter, less, fixed_text, behind, fixed_next, in_declaration, in_comment, tag, in_name, in_tag, before_equals, in_attribute_name, after_equals, in_value, ampersand, ampersand_a, slash, ending, closing_next, decide, is_empty, popped, top_of, put, attributed, moved, step, fed}
-use Rattle.db_text.proofs.Bytes.{both, conj, no, same, or_false, take_push, take_whole, take_past, name_push, declared_push, quiet_push, free_of_quiet}
+use Rattle.db_text.proofs.ByteTests.{both, conj, no, same, or_false, take_push, take_whole, take_past, name_push, declared_push, quiet_push, free_of_quiet}
 
 -- ---- bytes that stand behind others
 

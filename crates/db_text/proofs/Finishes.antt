@@ -16,7 +16,7 @@ use Rattle.db_text.specs.Text.{Placed, place, next_line, placed, line_behind, Qu
 use Rattle.db_text.specs.Tree.{element_of}
 use Rattle.db_text.specs.Grammar.{Stands}
 use Rattle.db_text.specs.Machine.{Stack, notes, parts, State, at, doing, go, when, fixed_text, behind, fixed_next, closing_next, is_empty, popped, top_of, put, closed, moved, fed}
-use Rattle.db_text.proofs.Bytes.{itself, at_seam, length_push}
+use Rattle.db_text.proofs.ByteTests.{itself, at_seam, length_push}
 use Rattle.db_text.proofs.Followed.{byte_by, closing_on, closed_next}
 use Rattle.db_text.proofs.Accepted.{In, BeforeFixed, ClosingOf}
 

@@ -1,6 +1,7 @@
 pub mod Accepted
-pub mod Bytes
+pub mod ByteTests
 pub mod Depth
 pub mod Finishes
 pub mod Followed
 pub mod Outcomes
+pub mod Runs

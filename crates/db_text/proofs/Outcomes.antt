@@ -16,7 +16,7 @@ use Rattle.db_text.specs.Grammar.{Document}
 use Rattle.db_text.specs.Machine.{Stack, notes, parts, State, state, at, no_notes, no_parts, start, decide, noted, parted, moved, step_from, fed, is_between, is_empty, is_whole}
 use Rattle.db_text.specs.Outcome.{Answer, after, at_end, outcome, after_part, built, text_outcome, text_built}
 use Rattle.db_text.specs.Refusal.{IsSpelled, IsText, Viable, IsFaulty, IsTooDeep, IsRefused, too_long, faulty, too_deep_within}
-use Rattle.db_text.proofs.Bytes.{length_push}
+use Rattle.db_text.proofs.ByteTests.{length_push}
 use Rattle.db_text.proofs.Accepted.{known, accepted}
 use Rattle.db_text.proofs.Finishes.{finish}
 use Rattle.db_text.proofs.Followed.{followed}

@@ -155,17 +155,19 @@ in_value quote b =
     else (if b == 0x26 then go (mode.Ampersand quote)
     else when (b == quote) (doing act.EndsAttribute mode.BehindValue))
 
+-- so many bytes of an entity were read
+abbrev pub in_entity : ℕ → Entity → ℕ → Mode
+in_entity quote e read = mode.Fixed (fixed.Entity quote e) read
+
 abbrev pub ampersand : ℕ → ℕ → Option Move
 ampersand quote b =
-    if b == 0x6C then go (mode.Fixed (fixed.Entity quote entity.Less) 2)
-    else (if b == 0x67 then go (mode.Fixed (fixed.Entity quote entity.Greater) 2)
-    else (if b == 0x71 then go (mode.Fixed (fixed.Entity quote entity.Quote) 2)
+    if b == 0x6C then go (in_entity quote entity.Less 2)
+    else (if b == 0x67 then go (in_entity quote entity.Greater 2)
+    else (if b == 0x71 then go (in_entity quote entity.Quote 2)
     else when (b == 0x61) (go (mode.AmpersandA quote))))
 
 abbrev pub ampersand_a : ℕ → ℕ → Option Move
-ampersand_a quote b =
-    if b == 0x6D then go (mode.Fixed (fixed.Entity quote entity.Ampersand) 3)
-    else when (b == 0x70) (go (mode.Fixed (fixed.Entity quote entity.Apostrophe) 3))
+ampersand_a quote b = if b == 0x6D then go (in_entity quote entity.Ampersand 3) else when (b == 0x70) (go (in_entity quote entity.Apostrophe 3))
 
 abbrev pub slash : ℕ → Option Move
 slash b = when (b == 0x3E) (doing act.Closes mode.Between)

@@ -2,6 +2,8 @@
 //! exactly the line and the code of the text's first fault.
 #![tactic(auto)]
 
+mod bytes;
+mod decide;
 mod fail;
 mod frame;
 mod frames;
@@ -11,6 +13,7 @@ mod names;
 mod node;
 mod notes;
 mod parts;
+mod tag;
 
 pub use fail::TextFail;
 pub use limits::{MOST_ELEMENT_DEPTH, MOST_TEXT_BYTES};
