@@ -1,8 +1,9 @@
 -- Runs of bytes in one list.
-use Rattle.std.proofs.Common.{◌≡◌, ◌≤◌, ◌+◌, ℕ, suc, List, [], ◌∷◌, ◌++◌, length, take, drop, refl, sym, ap, ◌∙◌, arith}
-use Rattle.std.proofs.lemmas.List.{length-append, length-take-le, take-append-le, drop-append-le}
+use Rattle.std.proofs.Common.{◌≡◌, ◌≢◌, ◌≤◌, ◌+◌, ℕ, suc, List, [], ◌∷◌, ◌++◌, ◌==◌, reverse, length, take, drop, refl, sym, ap, ◌∙◌, arith}
+use Rattle.std.proofs.lemmas.Bool.{ne_eqb}
+use Rattle.std.proofs.lemmas.List.{length-append, length-take-le, take-append-le, drop-append-le, length-reverse}
 use Rattle.std.proofs.Math.Seq.{take-append_seam, drop-append_seam}
-use Rattle.db_text.specs.Machine.{added}
+use Rattle.db_text.specs.Machine.{Stack, added, is_empty}
 use Rattle.db_text.specs.Runs.{runs, AreWithin}
 
 pub within_more : (starts : List ℕ) (n m : ℕ) → n ≤ m → AreWithin starts n → AreWithin starts m
@@ -26,3 +27,10 @@ added_runs (s ∷ starts) bytes b w =
 pub length_runs : (starts bytes : List ℕ) → length (runs starts bytes) ≡ length starts
 length_runs [] bytes = refl
 length_runs (s ∷ starts) bytes = ap suc (length_runs starts (take s bytes))
+
+pub depth_of : (starts bytes : List ℕ) → length starts ≡ length (runs (reverse starts) bytes)
+depth_of starts bytes = sym (length_runs (reverse starts) bytes ∙ length-reverse starts)
+
+pub empty_of : (k : Stack) → (length k == 0) ≡ is_empty k
+empty_of [] = refl
+empty_of (w ∷ k) = ne_eqb (length (w ∷ k)) 0 (omega arith)

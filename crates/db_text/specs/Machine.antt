@@ -243,13 +243,21 @@ abbrev pub closed : List ℕ → Parts → List Frame → Parts
 closed name q [] = q
 closed name q (f ∷ fs) = put (element_of name f.attributes f.children f.line) q.word q.value q.top fs
 
+-- an element begins on a line
+abbrev pub begun : ℕ → Parts → Parts
+begun line q = parts (frame line [] [] ∷ q.frames) q.word q.value q.top
+
+-- the attribute that was read is complete
+abbrev pub ended : Parts → Parts
+ended q = parts (attributed (attribute_of q.word q.value) q.frames) [] [] q.top
+
 abbrev pub parted : Act → Notes → Parts → Parts
 parted act.Nothing n q = q
-parted (act.Opens line b) n q = parts (frame line [] [] ∷ q.frames) q.word q.value q.top
+parted (act.Opens line b) n q = begun line q
 parted (act.AddsToName b) n q = q
 parted (act.AddsToWord b) n q = parts q.frames (q.word ++ b ∷ []) q.value q.top
 parted (act.AddsToValue b) n q = parts q.frames q.word (q.value ++ b ∷ []) q.top
-parted act.EndsAttribute n q = parts (attributed (attribute_of q.word q.value) q.frames) [] [] q.top
+parted act.EndsAttribute n q = ended q
 parted act.Closes n q = closed (top_of n.names) q q.frames
 
 -- ---- the machine

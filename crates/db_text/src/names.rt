@@ -73,14 +73,15 @@ impl Names {
         }
     }
 
+    #[tactic(auto, using(crate::proofs::Runs::empty_of))]
     pub fn is_empty(&self) -> bool
         ensures { result ≡ Machine.is_empty self.now }
     {
-        self.starts.is_empty()
+        self.depth() == 0
     }
 
     /// How many names there are.
-    #[tactic(auto, using(crate::proofs::Runs::length_runs))]
+    #[tactic(auto, using(crate::proofs::Runs::depth_of))]
     pub fn depth(&self) -> usize
         ensures { result ≡ length self.now }
     {
