@@ -122,10 +122,6 @@ abbrev count : Bool → ℕ
 count false = 0
 count true = 1
 
-
-
-
-
 -- behind a byte of a comment
 comment_next : (hyphen : Bool) (b : ℕ) (w : List ℕ) (t : Bool) → (b == 0x2D) ≡ t → has_double (b ∷ w) ≡ false → (hyphen && (b == 0x2D)) ≡ false → (n : Notes) (q : Parts) (ts : List Placed) (goal : Option State)
     → ((h : Bool) → has_double w ≡ false → (h && begins_with 0x2D w) ≡ false → fed (at (mode.Comment (count h)) n q) ts ≡ goal)

@@ -4,4 +4,5 @@ pub mod Depth
 pub mod Finishes
 pub mod Followed
 pub mod Outcomes
+pub mod Passes
 pub mod Runs

@@ -140,9 +140,9 @@ module _ (bytes : List ℕ) where
       subst (λ l. Tells bytes (if is_whole m n then Ok n.deep else Err (l, 2))) (ap (line_behind 1) all) (tells_end m n q (ap taken all ∙ h) (is_whole m n) refl)
   tells (b ∷ bs) front m n q e h =
       next (decide m n (line_behind 1 front) b) refl (λ v d.
-        subst (λ l. Tells bytes (outcome l v.mode (noted v.act n) bs)) (line_behind-append front (b ∷ []) 1)
-        (tells bs (front ++ b ∷ []) v.mode (noted v.act n) (parted v.act n q) (e ∙ sym (append_assoc front (b ∷ []) bs))
-        (taken-append front (b ∷ []) ∙ ap (λ x. fed x (placed (line_behind 1 front) (b ∷ []))) h ∙ ap (moved n q) d)))
+      subst (λ l. Tells bytes (outcome l v.mode (noted v.act n) bs)) (line_behind-append front (b ∷ []) 1)
+      (tells bs (front ++ b ∷ []) v.mode (noted v.act n) (parted v.act n q) (e ∙ sym (append_assoc front (b ∷ []) bs))
+      (taken-append front (b ∷ []) ∙ ap (λ x. fed x (placed (line_behind 1 front) (b ∷ []))) h ∙ ap (moved n q) d)))
     where
       next : (v : Option Move) → decide m n (line_behind 1 front) b ≡ v
           → ((w : Move) → decide m n (line_behind 1 front) b ≡ Some w → Tells bytes (outcome (next_line (line_behind 1 front) b) w.mode (noted w.act n) bs))

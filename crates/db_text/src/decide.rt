@@ -48,7 +48,13 @@ fn begin(line: u32, byte: u8) -> Option<Move>
     if byte == b'<' {
         return go(Mode::Less { line, first: true });
     }
-    go_if(byte == 0xEF, Mode::Fixed { word: Fixed::Mark, read: 1 })
+    go_if(
+        byte == 0xEF,
+        Mode::Fixed {
+            word: Fixed::Mark,
+            read: 1,
+        },
+    )
 }
 
 fn between(line: u32, byte: u8) -> Option<Move>
@@ -82,12 +88,21 @@ fn not_letter(line: u32, first: bool, place: Place, byte: u8) -> Option<Move>
     ensures { result ≡ Machine.not_letter line first place byte }
 {
     if byte == b'!' {
-        return go(Mode::Fixed { word: Fixed::Comment, read: 2 });
+        return go(Mode::Fixed {
+            word: Fixed::Comment,
+            read: 2,
+        });
     }
     if byte == b'/' {
         return closes(place);
     }
-    go_if(byte == b'?' && first, Mode::Fixed { word: Fixed::Declaration, read: 2 })
+    go_if(
+        byte == b'?' && first,
+        Mode::Fixed {
+            word: Fixed::Declaration,
+            read: 2,
+        },
+    )
 }
 
 /// Behind a `<` on a line.
@@ -109,7 +124,9 @@ fn behind(word: Fixed) -> Option<Move>
         Fixed::Declaration => go(Mode::Declaration),
         Fixed::Comment => go(Mode::Comment { hyphens: 0 }),
         Fixed::Entity { quote, entity } => doing(
-            Act::AddsToValue { byte: character(entity) },
+            Act::AddsToValue {
+                byte: character(entity),
+            },
             Mode::Value { quote },
         ),
     }
@@ -129,7 +146,10 @@ fn fixed(word: Fixed, read: usize, byte: u8) -> Option<Move>
             if read + 1 == text.len() {
                 behind(word)
             } else {
-                go(Mode::Fixed { word, read: read + 1 })
+                go(Mode::Fixed {
+                    word,
+                    read: read + 1,
+                })
             }
         }
     }
@@ -148,7 +168,13 @@ fn in_comment(hyphens: u8, byte: u8) -> Option<Move>
     ensures { result ≡ Machine.in_comment hyphens byte }
 {
     if byte == b'-' {
-        return if hyphens <= 2 { go(Mode::Comment { hyphens: hyphens + 1 }) } else { None };
+        return if hyphens <= 2 {
+            go(Mode::Comment {
+                hyphens: hyphens + 1,
+            })
+        } else {
+            None
+        };
     }
     if 2 <= hyphens {
         go_if(byte == b'>', Mode::Between)

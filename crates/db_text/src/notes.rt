@@ -23,7 +23,11 @@ pub struct Notes {
 fn if_deep(below: usize, line: u32) -> Option<u32>
     ensures { result ≡ Machine.if_deep (suc below) line }
 {
-    if MOST_ELEMENT_DEPTH <= below { Some(line) } else { None }
+    if MOST_ELEMENT_DEPTH <= below {
+        Some(line)
+    } else {
+        None
+    }
 }
 
 fn earlier(first: Option<u32>, second: Option<u32>) -> Option<u32>
@@ -73,10 +77,8 @@ impl Notes {
                 self.names.pop();
                 self.seen = self.names.is_empty();
             }
-            Act::Nothing
-            | Act::AddsToWord { .. }
-            | Act::AddsToValue { .. }
-            | Act::EndsAttribute => (),
+            Act::Nothing | Act::AddsToWord { .. } | Act::AddsToValue { .. } | Act::EndsAttribute =>
+                (),
         }
         Ok(())
     }

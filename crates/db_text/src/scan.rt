@@ -62,7 +62,10 @@ pub fn scan(alloc: Global, text: &[u8]) -> Result<Option<u32>, TextFail>
     let mut line = 1;
     let mut rest = text;
     while let Some((byte, behind)) = rest.split_first() {
-        mode = advance(mode, &mut notes, line, *byte)?;
+        match advance(mode, &mut notes, line, *byte) {
+            Ok(next) => mode = next,
+            Err(fail) => return Err(fail),
+        }
         line = next_line(line, *byte);
         rest = behind;
     }

@@ -73,7 +73,12 @@ pub fn in_value(quote: u8, byte: u8) -> Option<Move>
     ensures { result ≡ Machine.in_value quote byte }
 {
     if is_char(quote, byte) {
-        return doing(Act::AddsToValue { byte: as_space(byte) }, Mode::Value { quote });
+        return doing(
+            Act::AddsToValue {
+                byte: as_space(byte),
+            },
+            Mode::Value { quote },
+        );
     }
     if byte == b'&' {
         return go(Mode::Ampersand { quote });
