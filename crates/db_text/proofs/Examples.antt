@@ -1,5 +1,5 @@
 -- The texts that are written out, computed by the machine.
-use Rattle.std.proofs.Common.{◌≡◌, ◌≤◌, ℕ, List, [], ◌∷◌, ◌++◌, length, codes, Some, None, Ok, Err, refl, subst, arith}
+use Rattle.std.proofs.Common.{◌≡◌, ◌≤◌, ℕ, List, length, Some, None, Ok, Err, refl, subst, arith}
 use Rattle.db_text.specs.declared.node.Node.{Node}
 use Rattle.db_text.specs.Examples.{EmptyElements, Lines, Values, Unsaid, Early, Stuck}
 use Rattle.db_text.specs.Outcome.{outcome, built, text_outcome, text_built}

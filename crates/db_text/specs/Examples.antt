@@ -1,5 +1,5 @@
 -- Texts written out, and what the grammar makes of them.
-use Rattle.std.specs.Prelude.{ℕ, List, [], ◌∷◌, ◌++◌, codes}
+use Rattle.std.specs.Prelude.{[], ◌∷◌, ◌++◌, codes}
 use Rattle.db_text.specs.Refusal.{IsText, IsRefused}
 use Rattle.db_text.specs.Tree.{attribute_of, element_of}
 
