@@ -1,26 +1,22 @@
 -- What the machine accepts, the grammar reads: whatever is open was read from the bytes so far.
-use Rattle.std.proofs.Common.{◌≡◌, ◌≢◌, ◌<◌, ◌≤◌, ◌==◌, ◌&&◌, ◌||◌, nat_le, if◌then◌else◌, ℕ, zero, suc, Bool, true, false, List, [], ◌∷◌, ◌++◌, length, take, codes, Option, Some, None, refl, sym, ap, subst, ◌∙◌, arith, append_assoc, append-nil}
+use Rattle.std.proofs.Common.{◌≡◌, ◌≢◌, ◌<◌, ◌≤◌, ◌==◌, ◌&&◌, if◌then◌else◌, ℕ, zero, suc, Bool, true, false, List, [], ◌∷◌, ◌++◌, length, take, codes, Option, Some, None, refl, sym, ap, subst, ◌∙◌, arith, append-nil}
 use Rattle.std.specs.List.{list_all, slice_get}
 use Rattle.std.proofs.lemmas.Bool.{eqb-false}
 use Rattle.std.proofs.lemmas.Option.{slice_get_within}
-use Rattle.db_text.specs.declared.mode.Act.TheVariants as act
-use Rattle.db_text.specs.declared.mode.Entity.{Entity}
-use Rattle.db_text.specs.declared.mode.Entity.TheVariants as entities
 use Rattle.db_text.specs.declared.mode.Fixed.{Fixed}
 use Rattle.db_text.specs.declared.mode.Fixed.TheVariants as fixed
 use Rattle.db_text.specs.declared.mode.Mode.{Mode}
 use Rattle.db_text.specs.declared.mode.Mode.TheVariants as mode
 use Rattle.db_text.specs.declared.mode.Move.{Move}
-use Rattle.db_text.specs.declared.node.Attribute.{Attribute}
 use Rattle.db_text.specs.declared.node.Node.{Node}
 use Rattle.db_text.specs.declared.notes.Notes.{Notes}
 use Rattle.db_text.specs.declared.frame.Frame.{Frame}
 use Rattle.db_text.specs.declared.parts.Parts.{Parts}
-use Rattle.db_text.specs.Text.{Placed, is_space, is_letter, is_name_byte, is_name, is_declared, begins_with, has_double, Quote, double, single, is_char, as_space, entity_text, character}
+use Rattle.db_text.specs.Text.{Placed, is_space, is_letter, is_name_byte, is_name, is_declared, has_double, Quote, double, single, is_char}
 use Rattle.db_text.specs.Tree.{attribute_of, element_of}
-use Rattle.db_text.specs.Grammar.{Stands, Spaces, no_space, space, Gap, gap, Mark, no_mark, mark, Declaration, no_declaration, declaration, Comment, comment, Misc, no_misc, misc_space, misc_comment, Chars, no_char, char, entity, OneAttribute, one_attribute, Attributes, no_attribute, attribute, Opening, opening, Element, empty, nested, Content, no_content, content_space, content_comment, content_element, Document, document}
-use Rattle.db_text.specs.Machine.{Stack, notes, frame, parts, State, state, at, start, doing, go, when, place_in, front, begin, between, opens, closes, not_letter, less, fixed_text, behind, fixed_next, in_declaration, in_comment, tag, in_name, in_tag, before_equals, in_attribute_name, after_equals, in_value, ampersand, ampersand_a, slash, ending, closing_next, decide, is_empty, popped, top_of, put, attributed, moved, step, fed}
-use Rattle.db_text.proofs.Bytes.{both, conj, no, same, or_false, take_push, take_whole, take_past, name_push, declared_push, quiet_push, free_of_quiet}
+use Rattle.db_text.specs.Grammar.{Stands, Spaces, no_space, space, Gap, gap, Mark, no_mark, mark, Declaration, no_declaration, declaration, Comment, comment, Misc, no_misc, misc_space, misc_comment, Chars, no_char, char, entity, one_attribute, Attributes, no_attribute, attribute, Opening, opening, Element, empty, nested, Content, no_content, content_space, content_comment, content_element, Document, document}
+use Rattle.db_text.specs.Machine.{Stack, notes, parts, State, state, at, start, go, when, place_in, front, begin, between, opens, closes, less, fixed_text, behind, fixed_next, in_declaration, in_comment, tag, in_name, in_tag, before_equals, in_attribute_name, after_equals, in_value, ampersand, ampersand_a, slash, ending, closing_next, decide, is_empty, top_of, put, attributed, moved, step, fed}
+use Rattle.db_text.proofs.ByteTests.{both, conj, no, same, take_push, take_whole, take_past, name_push, declared_push, quiet_push, free_of_quiet}
 
 -- ---- bytes that stand behind others
 
@@ -278,8 +274,8 @@ module _ (all : List Placed) where
       (λ u. by_if n q rest (p.byte == 0x21) _ _ (λ t. (x ∷ p ∷ rest, (x, p ∷ rest, refl, w.1, (p, rest, refl, same _ _ t, refl)), omega arith, (w.3, w.4)))
       (λ u. by_if n q rest (p.byte == 0x2F) _ _ (λ t. keeps_slashed n.names n.seen n.deep q x p rest w.1 (same _ _ t) w.3 w.4)
       (λ u. by_when n q rest (p.byte == 0x3F && first) _ (λ t.
-        let b = both (p.byte == 0x3F) first t in
-        (x ∷ p ∷ rest, (x, p ∷ rest, refl, w.1, (p, rest, refl, same _ _ b.0, refl)), omega arith, w.5 b.1)))))
+      let b = both (p.byte == 0x3F) first t in
+      (x ∷ p ∷ rest, (x, p ∷ rest, refl, w.1, (p, rest, refl, same _ _ b.0, refl)), omega arith, w.5 b.1)))))
 
   -- ---- fixed bytes
 
@@ -301,10 +297,10 @@ module _ (all : List Placed) where
   keeps_fixed n q w read p rest i (Some c) e =
       let taken = take_push (fixed_text w) read c i.2 e in
       by_when n q rest (p.byte == c) _ (λ t.
-        let stands = stands_push (take read (fixed_text w)) i.0 p rest c i.1 (same _ _ t) in
-        by_if n q rest (suc read == length (fixed_text w)) _ _
-        (λ u. keeps_behind n q i.0 rest w (subst (λ x. Stands x i.0 rest) (sym taken ∙ ap (λ k. take k (fixed_text w)) (same _ _ u) ∙ take_whole (fixed_text w)) stands) i.3)
-        (λ u. let more : suc read ≢ length (fixed_text w) = eqb-false _ _ u in let less_ = i.2 in (i.0, subst (λ x. Stands x i.0 rest) (sym taken) stands, omega (arith, more, less_), i.3)))
+      let stands = stands_push (take read (fixed_text w)) i.0 p rest c i.1 (same _ _ t) in
+      by_if n q rest (suc read == length (fixed_text w)) _ _
+      (λ u. keeps_behind n q i.0 rest w (subst (λ x. Stands x i.0 rest) (sym taken ∙ ap (λ k. take k (fixed_text w)) (same _ _ u) ∙ take_whole (fixed_text w)) stands) i.3)
+      (λ u. let more : suc read ≢ length (fixed_text w) = eqb-false _ _ u in let less_ = i.2 in (i.0, subst (λ x. Stands x i.0 rest) (sym taken) stands, omega (arith, more, less_), i.3)))
 
   -- ---- a declaration, a comment
 
@@ -317,24 +313,26 @@ module _ (all : List Placed) where
   keeps_declared : (n : Notes) (q : Parts) (p : Placed) (rest : List Placed) → In mode.DeclarationEnds n.names n.seen q (p ∷ rest) → Moves n q rest (when (p.byte == 0x3E) (go mode.Between))
   keeps_declared n q p rest w =
       by_when n q rest (p.byte == 0x3E) _ (λ t.
-        let i = w.1 in
-        (declared_outside n.names n.seen q i.from rest i.fresh (declaration i.content i.begun i.declared i.stands (w.0, p ∷ rest, refl, w.2, (p, rest, refl, same _ _ t, refl))), i.fresh.clean))
+      let i = w.1 in
+      (declared_outside n.names n.seen q i.from rest i.fresh (declaration i.content i.begun i.declared i.stands (w.0, p ∷ rest, refl, w.2, (p, rest, refl, same _ _ t, refl))), i.fresh.clean))
 
   -- another byte than a hyphen: all so far is content
   keeps_content : (n : Notes) (q : Parts) (hyphen : ℕ) (p : Placed) (rest : List Placed) (i : InComment hyphen n.names n.seen q (p ∷ rest)) → has_double (i.content ++ hyphens hyphen) ≡ false → (p.byte == 0x2D) ≡ false → Moves n q rest (go (mode.Comment 0))
-  keeps_content n q hyphen p rest i d h =
-      (record {
-        from = i.from;
-        us = i.us;
-        vs = rest;
-        content = (i.content ++ hyphens hyphen) ++ p.byte ∷ [];
-        outside = i.outside;
-        clean = i.clean;
-        begun = i.begun;
-        quiet = quiet_push (i.content ++ hyphens hyphen) p.byte d h;
-        stands = stands_push (i.content ++ hyphens hyphen) i.us p rest p.byte (stands_append i.content (hyphens hyphen) i.us i.vs (p ∷ rest) i.stands i.behind_) refl;
-        behind_ = refl;
-      }, omega arith)
+  keeps_content n q hyphen p rest i d h = (
+    record {
+      from = i.from;
+      us = i.us;
+      vs = rest;
+      content = (i.content ++ hyphens hyphen) ++ p.byte ∷ [];
+      outside = i.outside;
+      clean = i.clean;
+      begun = i.begun;
+      quiet = quiet_push (i.content ++ hyphens hyphen) p.byte d h;
+      stands = stands_push (i.content ++ hyphens hyphen) i.us p rest p.byte (stands_append i.content (hyphens hyphen) i.us i.vs (p ∷ rest) i.stands i.behind_) refl;
+      behind_ = refl;
+    },
+    omega arith,
+  )
 
   keeps_comment : (n : Notes) (q : Parts) (hyphen : ℕ) (p : Placed) (rest : List Placed) → InComment hyphen n.names n.seen q (p ∷ rest) × (hyphen ≤ 3) → Moves n q rest (in_comment hyphen p.byte)
   keeps_comment n q zero p rest w =
@@ -352,14 +350,14 @@ module _ (all : List Placed) where
       by_if n q rest (p.byte == 0x2D) _ _
       (λ t. (record { from = i.from; us = i.us; vs = i.vs; content = i.content; outside = i.outside; clean = i.clean; begun = i.begun; quiet = i.quiet; stands = i.stands; behind_ = stands_push (hyphens 2) i.vs p rest 0x2D i.behind_ (same _ _ t) }, omega arith))
       (λ u. by_when n q rest (p.byte == 0x3E) _ (λ t.
-        (outside_comment n.names n.seen q i.from rest (comment i.content i.begun (free_of_quiet i.content i.quiet) i.stands (stands_push (hyphens 2) i.vs p rest 0x3E i.behind_ (same _ _ t))) i.outside, i.clean)))
+      (outside_comment n.names n.seen q i.from rest (comment i.content i.begun (free_of_quiet i.content i.quiet) i.stands (stands_push (hyphens 2) i.vs p rest 0x3E i.behind_ (same _ _ t))) i.outside, i.clean)))
   keeps_comment n q (suc (suc (suc zero))) p rest w =
       let i = w.0 in
       by_if n q rest (p.byte == 0x2D) _ _
       (λ t. tt)
       (λ u. by_when n q rest (p.byte == 0x3E) _ (λ t.
-        let b = i.behind_ in
-        (outside_comment n.names n.seen q i.from rest (comment (i.content ++ 0x2D ∷ []) i.begun i.quiet (stands_append i.content (0x2D ∷ []) i.us i.vs b.1 i.stands (b.0, b.1, b.2, b.3, refl)) (stands_push (hyphens 2) b.1 p rest 0x3E b.4 (same _ _ t))) i.outside, i.clean)))
+      let b = i.behind_ in
+      (outside_comment n.names n.seen q i.from rest (comment (i.content ++ 0x2D ∷ []) i.begun i.quiet (stands_append i.content (0x2D ∷ []) i.us i.vs b.1 i.stands (b.0, b.1, b.2, b.3, refl)) (stands_push (hyphens 2) b.1 p rest 0x3E b.4 (same _ _ t))) i.outside, i.clean)))
   keeps_comment n q (suc (suc (suc (suc m)))) p rest w = let h = w.1 in absurd (omega (arith, h))
 
   -- ---- tags
@@ -476,9 +474,9 @@ module _ (all : List Placed) where
   keeps_slash (w ∷ k) seen deep [] word value top p rest s c = absurd s
   keeps_slash (w ∷ k) seen deep (f ∷ fs) word value top p rest s c =
       by_when (notes (w ∷ k) seen deep) (parts (f ∷ fs) word value top) rest (p.byte == 0x3E) _ (λ h.
-        let x = element_of w f.attributes f.children f.line in
-        let e : Element x s.0 rest = subst (λ ns. Element (element_of w f.attributes ns f.line) s.0 rest) (sym s.4) (empty s.2 (stands_push (0x2F ∷ []) s.1 p rest 0x3E s.3 (same _ _ h))) in
-        (keeps_put x k fs word value top s.0 rest e s.5, put_clean x word value top fs c))
+      let x = element_of w f.attributes f.children f.line in
+      let e : Element x s.0 rest = subst (λ ns. Element (element_of w f.attributes ns f.line) s.0 rest) (sym s.4) (empty s.2 (stands_push (0x2F ∷ []) s.1 p rest 0x3E s.3 (same _ _ h))) in
+      (keeps_put x k fs word value top s.0 rest e s.5, put_clean x word value top fs c))
 
   keeps_ending : (names : Stack) (seen : Bool) (deep : Option ℕ) (fs : List Frame) (word value : List ℕ) (top : Option Node) (p : Placed) (rest : List Placed) → ClosedOf names fs (p ∷ rest) → Clean (parts fs word value top)
       → Moves (notes names seen deep) (parts fs word value top) rest (ending p.byte)
@@ -489,9 +487,9 @@ module _ (all : List Placed) where
       let q = parts (f ∷ fs) word value top in
       by_if n q rest (is_space p.byte) _ _ (λ h. ((s.0, s.1, s.2, space s.3 h, s.4), c))
       (λ y. by_when n q rest (p.byte == 0x3E) _ (λ h.
-        let x = element_of w f.attributes f.children f.line in
-        let b = s.4 in
-        (keeps_put x k fs word value top b.0 rest (nested b.3 b.4 b.5 s.2 s.3 (same _ _ h)) b.6, put_clean x word value top fs c)))
+      let x = element_of w f.attributes f.children f.line in
+      let b = s.4 in
+      (keeps_put x k fs word value top b.0 rest (nested b.3 b.4 b.5 s.2 s.3 (same _ _ h)) b.6, put_clean x word value top fs c)))
 
   keeps_closing : (names : Stack) (seen : Bool) (deep : Option ℕ) (fs : List Frame) (word value : List ℕ) (top : Option Node) (read : ℕ) (p : Placed) (rest : List Placed) → ClosingOf names fs read (p ∷ rest) → Clean (parts fs word value top)
       → (o : Option ℕ) → slice_get (top_of names) read ≡ o → Moves (notes names seen deep) (parts fs word value top) rest (closing_next read p.byte o)
@@ -500,7 +498,7 @@ module _ (all : List Placed) where
       keeps_ending (w ∷ k) seen deep fs word value top p rest (s.0, p ∷ rest, subst (λ x. Stands (0x3C ∷ 0x2F ∷ x) s.0 (p ∷ rest)) (take_past w read e) s.1, no_space, s.3) c
   keeps_closing (w ∷ k) seen deep fs word value top read p rest s c (Some b) e =
       by_when (notes (w ∷ k) seen deep) (parts fs word value top) rest (p.byte == b) _ (λ h.
-        ((s.0, subst (λ x. Stands (0x3C ∷ 0x2F ∷ x) s.0 rest) (sym (take_push w read b (slice_get_within w read b e) e)) (stands_push (0x3C ∷ 0x2F ∷ take read w) s.0 p rest b s.1 (same _ _ h)), slice_get_within w read b e, s.3), c))
+      ((s.0, subst (λ x. Stands (0x3C ∷ 0x2F ∷ x) s.0 rest) (sym (take_push w read b (slice_get_within w read b e) e)) (stands_push (0x3C ∷ 0x2F ∷ take read w) s.0 p rest b s.1 (same _ _ h)), slice_get_within w read b e, s.3), c))
 
   -- ---- all bytes
 

@@ -1,22 +1,19 @@
 -- Each state that the machine comes to can be ended, so the bytes that it has taken go on to a text.
-use Rattle.std.proofs.Common.{◌≡◌, ◌≢◌, ◌<◌, ◌≤◌, ◌==◌, if◌then◌else◌, ℕ, zero, suc, Bool, true, false, List, [], ◌∷◌, ◌++◌, length, take, drop, codes, Option, Some, None, refl, sym, ap, subst, ◌∙◌, arith, append_assoc}
+use Rattle.std.proofs.Common.{◌≡◌, ◌≢◌, ◌<◌, ◌≤◌, ◌==◌, if◌then◌else◌, ℕ, zero, suc, Bool, true, false, List, [], ◌∷◌, ◌++◌, length, take, drop, Option, refl, sym, ap, subst, ◌∙◌, arith, append_assoc}
 use Rattle.std.specs.List.{slice_get}
 use Rattle.std.proofs.lemmas.Bool.{eq-eqb, ne_eqb}
 use Rattle.std.proofs.lemmas.List.{length-append, length-take-le, take-append-drop}
-use Rattle.db_text.specs.declared.mode.Act.TheVariants as act
 use Rattle.db_text.specs.declared.mode.Entity.TheVariants as entities
 use Rattle.db_text.specs.declared.mode.Fixed.{Fixed}
 use Rattle.db_text.specs.declared.mode.Fixed.TheVariants as fixed
 use Rattle.db_text.specs.declared.mode.Mode.{Mode}
 use Rattle.db_text.specs.declared.mode.Mode.TheVariants as mode
-use Rattle.db_text.specs.declared.mode.Move.{Move}
 use Rattle.db_text.specs.declared.notes.Notes.{Notes}
 use Rattle.db_text.specs.declared.parts.Parts.{Parts}
-use Rattle.db_text.specs.Text.{Placed, place, next_line, placed, line_behind, Quote, double, single, character}
-use Rattle.db_text.specs.Tree.{element_of}
+use Rattle.db_text.specs.Text.{Placed, place, next_line, placed, line_behind, Quote, double, single}
 use Rattle.db_text.specs.Grammar.{Stands}
-use Rattle.db_text.specs.Machine.{Stack, notes, parts, State, at, doing, go, when, fixed_text, behind, fixed_next, closing_next, is_empty, popped, top_of, put, closed, moved, fed}
-use Rattle.db_text.proofs.Bytes.{itself, at_seam, length_push}
+use Rattle.db_text.specs.Machine.{Stack, notes, State, at, go, when, fixed_text, behind, fixed_next, is_empty, popped, top_of, closed, moved, fed}
+use Rattle.db_text.proofs.ByteTests.{itself, at_seam, length_push}
 use Rattle.db_text.proofs.Followed.{byte_by, closing_on, closed_next}
 use Rattle.db_text.proofs.Accepted.{In, BeforeFixed, ClosingOf}
 
@@ -35,11 +32,14 @@ finish_name : (w : List ℕ) (read v : List ℕ) → w ≡ read ++ v → (k : St
 finish_name w read v e k seen deep q line f =
     let l = line_behind line v in
     let r = f (next_line l 0x3E) in
-    let n = notes (w ∷ k) seen deep in
-    (v ++ 0x3E ∷ r.0, r.1, r.2,
+    let n = notes (w ∷ k) seen deep in (
+      v ++ 0x3E ∷ r.0,
+      r.1,
+      r.2,
       closing_on w read v (placed line (v ++ 0x3E ∷ r.0)) (placed l (0x3E ∷ r.0)) e (placed_stands v line (0x3E ∷ r.0)) k seen deep q
-      ∙ ap (λ o. fed (moved n q o) (placed (next_line l 0x3E) r.0)) (closed_next w 0x3E)
-      ∙ r.3)
+          ∙ ap (λ o. fed (moved n q o) (placed (next_line l 0x3E) r.0)) (closed_next w 0x3E)
+          ∙ r.3,
+    )
 
 finish_between : (k : Stack) (seen : Bool) (deep : Option ℕ) (q : Parts) (line : ℕ) → Finish (at mode.Between (notes k seen deep) q) line
 finish_between [] true deep q line = ([], deep, q, refl)
@@ -100,11 +100,14 @@ fixed_drop w read lt n q line f (c ∷ v) e =
     let p : fixed_text w ≡ take read (fixed_text w) ++ (c ∷ v) = sym (take-append-drop read (fixed_text w)) ∙ ap (λ x. take read (fixed_text w) ++ x) e in
     let t : length (take read (fixed_text w)) ≡ read = length-take-le read (fixed_text w) (omega (arith, lt)) in
     let l = line_behind line (c ∷ v) in
-    let r = f l in
-    ((c ∷ v) ++ r.0, r.1, r.2,
+    let r = f l in (
+      (c ∷ v) ++ r.0,
+      r.1,
+      r.2,
       ap (λ i. fed (at (mode.Fixed w i) n q) (placed line ((c ∷ v) ++ r.0))) (sym t)
-      ∙ fixed_on w (take read (fixed_text w)) v c (placed line ((c ∷ v) ++ r.0)) (placed l r.0) p (placed_stands (c ∷ v) line r.0) n q
-      ∙ r.3)
+          ∙ fixed_on w (take read (fixed_text w)) v c (placed line ((c ∷ v) ++ r.0)) (placed l r.0) p (placed_stands (c ∷ v) line r.0) n q
+          ∙ r.3,
+    )
 
 finish_comment : (n : Notes) (q : Parts) (line : ℕ) → Finish (at (mode.Comment 0) n q) line
 finish_comment n q line = let r = between n q line in (0x2D ∷ 0x2D ∷ 0x3E ∷ r.0, r.1, r.2, r.3)

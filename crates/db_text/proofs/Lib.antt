@@ -1,6 +1,9 @@
 pub mod Accepted
-pub mod Bytes
+pub mod ByteTests
 pub mod Depth
+pub mod Examples
 pub mod Finishes
 pub mod Followed
 pub mod Outcomes
+pub mod Passes
+pub mod Runs

@@ -1,9 +1,8 @@
 -- The machine's outcome is the answer that the grammar gives, and each answer excludes every other.
-use Rattle.std.proofs.Common.{◌≡◌, ◌≢◌, ◌<◌, ◌≤◌, ◌+◌, ◌-◌, ◌==◌, ◌&&◌, if◌then◌else◌, ℕ, suc, Bool, true, false, List, [], ◌∷◌, ◌++◌, length, take, drop, Option, Some, None, Result, Ok, Err, ◌⊎◌, inl, inr, refl, sym, ap, subst, ◌∙◌, arith, append_assoc, append-nil}
+use Rattle.std.proofs.Common.{◌≡◌, ◌≢◌, ◌<◌, ◌≤◌, ◌+◌, ◌-◌, ◌==◌, if◌then◌else◌, ℕ, suc, Bool, true, false, List, [], ◌∷◌, ◌++◌, length, take, Option, Some, None, Ok, Err, ◌⊎◌, inl, inr, refl, sym, ap, subst, ◌∙◌, arith, append_assoc, append-nil}
 use Rattle.std.proofs.lemmas.Bool.{eq-eqb, ne_eqb, cases_lt}
-use Rattle.std.proofs.lemmas.List.{length-append, length-take-le, take-append-drop, take_all}
+use Rattle.std.proofs.lemmas.List.{length-append}
 use Rattle.std.proofs.Math.Seq.{take-append_seam, take-append-add, take-length}
-use Rattle.std.specs.Prelude.{unwrap_or}
 use Rattle.db_text.specs.declared.mode.Mode.{Mode}
 use Rattle.db_text.specs.declared.mode.Mode.TheVariants as mode
 use Rattle.db_text.specs.declared.mode.Move.{Move}
@@ -12,11 +11,10 @@ use Rattle.db_text.specs.declared.notes.Notes.{Notes}
 use Rattle.db_text.specs.declared.parts.Parts.{Parts}
 use Rattle.db_text.specs.Text.{Placed, next_line, placed, line_behind}
 use Rattle.db_text.specs.Tree.{too_deep}
-use Rattle.db_text.specs.Grammar.{Document}
-use Rattle.db_text.specs.Machine.{Stack, notes, parts, State, state, at, no_notes, no_parts, start, decide, noted, parted, moved, step_from, fed, is_between, is_empty, is_whole}
-use Rattle.db_text.specs.Outcome.{Answer, after, at_end, outcome, after_part, built, text_outcome, text_built}
-use Rattle.db_text.specs.Refusal.{IsSpelled, IsText, Viable, IsFaulty, IsTooDeep, IsRefused, too_long, faulty, too_deep_within}
-use Rattle.db_text.proofs.Bytes.{length_push}
+use Rattle.db_text.specs.Machine.{Stack, notes, parts, State, state, at, no_notes, no_parts, start, decide, noted, parted, moved, step_from, fed, is_whole}
+use Rattle.db_text.specs.Outcome.{Answer, after, outcome, after_part, built, text_outcome, text_built}
+use Rattle.db_text.specs.Refusal.{IsSpelled, IsText, Viable, IsFaulty, IsRefused, too_long, faulty, too_deep_within}
+use Rattle.db_text.proofs.ByteTests.{length_push}
 use Rattle.db_text.proofs.Accepted.{known, accepted}
 use Rattle.db_text.proofs.Finishes.{finish}
 use Rattle.db_text.proofs.Followed.{followed}
@@ -140,9 +138,9 @@ module _ (bytes : List ℕ) where
       subst (λ l. Tells bytes (if is_whole m n then Ok n.deep else Err (l, 2))) (ap (line_behind 1) all) (tells_end m n q (ap taken all ∙ h) (is_whole m n) refl)
   tells (b ∷ bs) front m n q e h =
       next (decide m n (line_behind 1 front) b) refl (λ v d.
-        subst (λ l. Tells bytes (outcome l v.mode (noted v.act n) bs)) (line_behind-append front (b ∷ []) 1)
-        (tells bs (front ++ b ∷ []) v.mode (noted v.act n) (parted v.act n q) (e ∙ sym (append_assoc front (b ∷ []) bs))
-        (taken-append front (b ∷ []) ∙ ap (λ x. fed x (placed (line_behind 1 front) (b ∷ []))) h ∙ ap (moved n q) d)))
+      subst (λ l. Tells bytes (outcome l v.mode (noted v.act n) bs)) (line_behind-append front (b ∷ []) 1)
+      (tells bs (front ++ b ∷ []) v.mode (noted v.act n) (parted v.act n q) (e ∙ sym (append_assoc front (b ∷ []) bs))
+      (taken-append front (b ∷ []) ∙ ap (λ x. fed x (placed (line_behind 1 front) (b ∷ []))) h ∙ ap (moved n q) d)))
     where
       next : (v : Option Move) → decide m n (line_behind 1 front) b ≡ v
           → ((w : Move) → decide m n (line_behind 1 front) b ≡ Some w → Tells bytes (outcome (next_line (line_behind 1 front) b) w.mode (noted w.act n) bs))

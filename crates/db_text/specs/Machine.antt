@@ -155,17 +155,19 @@ in_value quote b =
     else (if b == 0x26 then go (mode.Ampersand quote)
     else when (b == quote) (doing act.EndsAttribute mode.BehindValue))
 
+-- so many bytes of an entity were read
+abbrev pub in_entity : ℕ → Entity → ℕ → Mode
+in_entity quote e read = mode.Fixed (fixed.Entity quote e) read
+
 abbrev pub ampersand : ℕ → ℕ → Option Move
 ampersand quote b =
-    if b == 0x6C then go (mode.Fixed (fixed.Entity quote entity.Less) 2)
-    else (if b == 0x67 then go (mode.Fixed (fixed.Entity quote entity.Greater) 2)
-    else (if b == 0x71 then go (mode.Fixed (fixed.Entity quote entity.Quote) 2)
+    if b == 0x6C then go (in_entity quote entity.Less 2)
+    else (if b == 0x67 then go (in_entity quote entity.Greater 2)
+    else (if b == 0x71 then go (in_entity quote entity.Quote 2)
     else when (b == 0x61) (go (mode.AmpersandA quote))))
 
 abbrev pub ampersand_a : ℕ → ℕ → Option Move
-ampersand_a quote b =
-    if b == 0x6D then go (mode.Fixed (fixed.Entity quote entity.Ampersand) 3)
-    else when (b == 0x70) (go (mode.Fixed (fixed.Entity quote entity.Apostrophe) 3))
+ampersand_a quote b = if b == 0x6D then go (in_entity quote entity.Ampersand 3) else when (b == 0x70) (go (in_entity quote entity.Apostrophe 3))
 
 abbrev pub slash : ℕ → Option Move
 slash b = when (b == 0x3E) (doing act.Closes mode.Between)
@@ -241,13 +243,21 @@ abbrev pub closed : List ℕ → Parts → List Frame → Parts
 closed name q [] = q
 closed name q (f ∷ fs) = put (element_of name f.attributes f.children f.line) q.word q.value q.top fs
 
+-- an element begins on a line
+abbrev pub begun : ℕ → Parts → Parts
+begun line q = parts (frame line [] [] ∷ q.frames) q.word q.value q.top
+
+-- the attribute that was read is complete
+abbrev pub ended : Parts → Parts
+ended q = parts (attributed (attribute_of q.word q.value) q.frames) [] [] q.top
+
 abbrev pub parted : Act → Notes → Parts → Parts
 parted act.Nothing n q = q
-parted (act.Opens line b) n q = parts (frame line [] [] ∷ q.frames) q.word q.value q.top
+parted (act.Opens line b) n q = begun line q
 parted (act.AddsToName b) n q = q
 parted (act.AddsToWord b) n q = parts q.frames (q.word ++ b ∷ []) q.value q.top
 parted (act.AddsToValue b) n q = parts q.frames q.word (q.value ++ b ∷ []) q.top
-parted act.EndsAttribute n q = parts (attributed (attribute_of q.word q.value) q.frames) [] [] q.top
+parted act.EndsAttribute n q = ended q
 parted act.Closes n q = closed (top_of n.names) q q.frames
 
 -- ---- the machine

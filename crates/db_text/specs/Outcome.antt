@@ -48,3 +48,17 @@ abbrev pub Told : Result (Option ℕ) TextFail → Answer → Type 0
 Told (Ok deep) a = a ≡ Ok deep
 Told (Err (fail.Fault line code)) a = a ≡ Err (line, code)
 Told (Err fail.NoMemory) a = Unit {0}
+
+-- a byte on a line was taken, or is at fault
+abbrev pub Advanced : ℕ → Mode → Notes → ℕ → Result Mode TextFail → Notes → Type 0
+Advanced line m n b (Ok m') n' = (next : Mode → Notes → Answer) → after line n next (decide m n line b) ≡ next m' n'
+Advanced line m n b (Err (fail.Fault at code)) n' = (next : Mode → Notes → Answer) → after line n next (decide m n line b) ≡ Err (at, code)
+Advanced line m n b (Err fail.NoMemory) n' = Unit {0}
+
+abbrev pub follow : Option Mode → Notes → Parts → (Mode → Notes → Parts → Option Node) → Option Node
+follow None n q next = None
+follow (Some m) n q next = next m n q
+
+-- a byte on a line was taken, if there is a mode
+abbrev pub Built : ℕ → Mode → Notes → Parts → ℕ → Option Mode → Notes → Parts → Type 0
+Built line m n q b o n' q' = (next : Mode → Notes → Parts → Option Node) → after_part n q next (decide m n line b) ≡ follow o n' q' next

@@ -2,17 +2,25 @@
 //! exactly the line and the code of the text's first fault.
 #![tactic(auto)]
 
+mod build;
+mod bytes;
+mod decide;
 mod fail;
 mod frame;
 mod frames;
+pub mod laws;
 mod limits;
 mod mode;
 mod names;
 mod node;
 mod notes;
 mod parts;
+mod read;
+mod scan;
+mod tag;
 
 pub use fail::TextFail;
 pub use limits::{MOST_ELEMENT_DEPTH, MOST_TEXT_BYTES};
 pub use mode::{Act, Entity, Fixed, Mode, Move, Place};
 pub use node::{Attribute, AttributeList, Node, NodeList};
+pub use read::read_elements;
