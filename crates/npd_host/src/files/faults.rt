@@ -11,14 +11,14 @@ use std::alloc::Global;
 use std::marker::Model;
 
 /// How often each kind of call has failed on a name.
-#[derive(Debug, Drop)]
+#[derive(Drop)]
 pub struct NameFaults {
     pub name: Word,
     pub counts: Counts,
 }
 
 /// The faults of each name.
-#[derive(Debug, Drop)]
+#[derive(Drop)]
 pub struct Faults {
     names: Vec<NameFaults>,
 }

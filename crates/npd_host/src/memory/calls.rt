@@ -17,7 +17,7 @@ pub struct PlannedCall {
 }
 
 /// A call that failed, and the name that it was made on.
-#[derive(Debug, Drop)]
+#[derive(Drop)]
 pub struct FailedCall {
     pub kind: CallKind,
     pub name: Word,
