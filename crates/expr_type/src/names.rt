@@ -9,7 +9,6 @@ use crate::fields::has_field;
 use crate::logic::either;
 use db_model::{Database, Declaration, Expr, Name, Protocol, Special, place_of};
 
-
 /// Whether an expression names something that isn't declared. The fields are those of the protocol.
 #[cycle(names)]
 pub fn has_undeclared(e: &Expr, db: &Database, protocol: Option<&Protocol>) -> bool
