@@ -10,7 +10,7 @@ struct Seen {
     begins_full: bool,
 }
 
-fn seen(alloc: Global) -> Result<Seen, NoMemory> {
+fn look(alloc: Global) -> Result<Seen, NoMemory> {
     let bare = CheckedDb::bare(alloc)?;
     Ok(Seen {
         is_startproto_alone: is_startproto_alone(&bare),
@@ -73,21 +73,21 @@ fn is_full(env: &Env) -> bool {
 
 #[test]
 fn the_smallest_database_is_checked(rt: HostRuntime) -> Result<(), Fail> {
-    let seen = seen(rt.alloc())?;
+    let seen = look(rt.alloc())?;
     assert!(rt; seen.is_startproto_alone);
     Ok(())
 }
 
 #[test]
 fn a_decoding_begins_with_full_budgets(rt: HostRuntime) -> Result<(), Fail> {
-    let seen = seen(rt.alloc())?;
+    let seen = look(rt.alloc())?;
     assert!(rt; seen.begins_full);
     Ok(())
 }
 
 #[test]
 fn declarations_are_found_by_their_names(rt: HostRuntime) -> Result<(), Fail> {
-    let seen = seen(rt.alloc())?;
+    let seen = look(rt.alloc())?;
     assert!(rt; seen.places == [0, 1, 1, 0, 0]);
     Ok(())
 }

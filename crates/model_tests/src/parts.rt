@@ -142,26 +142,37 @@ fn blocks_stand_in_one_another(rt: HostRuntime) -> Result<(), Fail> {
     Ok(())
 }
 
-/// A protocol with as many fields as a tree may have, a note and payload, and whether a further node was refused.
-fn full_tree(alloc: Global) -> Result<(PacketTree, bool), AddFail> {
+/// A protocol with as many fields as a tree may have, a note and payload, and whether one more node was refused as one
+/// too many; none where a block was taken.
+fn full_tree(alloc: Global) -> Result<Option<(PacketTree, bool)>, AddFail> {
     let mut builder = TreeBuilder::new(alloc);
     builder.open_proto(3, 0)?;
     for field in 0..MOST_NODES {
         builder.field(field, 0, 1, &[])?;
     }
     let no_field = builder.field(0, 0, 1, &[]) == Err(AddFail::Nodes);
-    let no_block = builder.open_block(0, 0) == Err(AddFail::Nodes);
+    let Err(no_block) = builder.open_block(0, 0) else {
+        return Ok(None);
+    };
     builder.note(Reason::Nodes, 5)?;
     builder.close(7);
     builder.payload(7, b"rest")?;
-    Ok((builder.finish(), no_field && no_block))
+    let refused = no_field && no_block == AddFail::Nodes;
+    Ok(Some((builder.finish(), refused)))
+}
+
+fn is_full_with_payload(tree: &PacketTree) -> bool {
+    let sizes = tree.as_slice().iter().map(|p| p.nodes.len());
+    sizes.eq([16_385, 1])
 }
 
 #[test]
 fn one_node_too_many_is_refused(rt: HostRuntime) -> Result<(), Fail> {
-    let (tree, refused) = full_tree(rt.alloc())?;
-    let sizes = tree.as_slice().iter().map(|p| p.nodes.len());
-    assert!(rt; refused && sizes.eq([16_385, 1]));
+    let holds = match full_tree(rt.alloc())? {
+        Some((tree, refused)) => refused && is_full_with_payload(&tree),
+        None => false,
+    };
+    assert!(rt; holds);
     Ok(())
 }
 

@@ -5,4 +5,4 @@ use Rattle.model_tests.proofs.parts.full_tree.Given as goal
 
 -- one protocol is open, from position 0
 abbrev pub invariant-loop-field : goal.invariant-loop-field
-invariant-loop-field g l = (ns : List Node) × (let p : Part = record { number = 3; pos = 0; nodes = ns } in l.builder.parts ≡ p ∷ [])
+invariant-loop-field l = (ns : List Node) × (let p : Part = record { number = 3; pos = 0; nodes = ns } in l.builder.parts ≡ p ∷ [])
