@@ -2,7 +2,6 @@
 use Rattle.std.proofs.Common.{◌≡◌, ◌≤◌, ◌+◌, ◌-◌, ℕ, zero, suc, Bool, true, false, nat_le, if◌then◌else◌, List, [], ◌∷◌, ◌++◌, Option, Some, None, refl, sym, ap, subst, ◌∙◌, arith, append_assoc, append-nil}
 use Rattle.std.proofs.lemmas.Bool.{leb-true}
 use Rattle.db_model.specs.declared.expression.Expr.{Expr}
-use Rattle.db_model.specs.declared.expression.Expr.TheVariants as expr
 use Rattle.expr_text.specs.declared.machine.Begun.{Begun}
 use Rattle.expr_text.specs.declared.machine.Begun.TheVariants as begun
 use Rattle.expr_text.specs.declared.machine.Mode.{Mode}

@@ -1,5 +1,5 @@
 -- The canonical text of a well-formed expression reads back as that expression.
-use Rattle.std.proofs.Common.{◌≡◌, ◌≤◌, ℕ, Bool, true, List, [], ◌∷◌, ◌++◌, length, map, sym, subst, ◌∙◌, append-nil}
+use Rattle.std.proofs.Common.{◌≡◌, ℕ, Bool, true, List, [], ◌∷◌, ◌++◌, map, sym, subst, ◌∙◌, append-nil}
 use Rattle.std.proofs.lemmas.Bool.{and_parts, leb-true}
 use Rattle.std.specs.List.{list_all}
 use Rattle.std.specs.Prelude.{◌&&◌, nat_le}
@@ -10,8 +10,8 @@ use Rattle.db_model.specs.declared.expression.Expr.TheFolds.{ind-Expr}
 use Rattle.db_model.specs.declared.expression.Expr.TheVariants as expr
 use Rattle.db_model.specs.declared.expression.Expr.TheVariants.{rolls-Number, rolls-Text, rolls-Protocol, rolls-Field, rolls-Variable, rolls-Column, rolls-Not, rolls-And, rolls-Or, rolls-Binary, rolls-Slice, rolls-ToNumber, rolls-LengthOf, rolls-ToBytes, rolls-HasText, rolls-IsPresent, rolls-LookUp}
 use Rattle.db_model.specs.declared.expression.Operator.{Operator}
-use Rattle.db_model.specs.declared.limits.TheConstants.{GREATEST_NUMBER, MOST_EXPRESSION_NODES, MOST_EXPRESSION_DEPTH}
-use Rattle.db_model.specs.Forms.{is_byte, form_step, nodes_of, depth_of, is_expression}
+use Rattle.db_model.specs.declared.limits.TheConstants.{GREATEST_NUMBER}
+use Rattle.db_model.specs.Forms.{is_byte, form_step, is_expression}
 use Rattle.db_model.specs.Name.{is_name}
 use Rattle.expr_text.specs.Lexing.{lexed, lexemes, AreTokens}
 use Rattle.expr_text.specs.Printing.{Printed, operand, printed_step, printing, printed}

@@ -1,10 +1,9 @@
 -- How the lexemes of a text go on behind a space and behind a lexeme.
-use Rattle.std.proofs.Common.{◌≡◌, ◌≤◌, ◌<◌, ◌+◌, ℕ, zero, suc, pred, Bool, true, false, if◌then◌else◌, List, [], ◌∷◌, length, drop, Some, None, Result, Ok, Err, refl, sym, ap, subst, ◌∙◌, arith}
+use Rattle.std.proofs.Common.{◌≡◌, ◌≤◌, ◌<◌, ◌+◌, ℕ, zero, suc, pred, Bool, true, false, if◌then◌else◌, List, [], ◌∷◌, length, drop, Some, Result, Ok, Err, refl, sym, ap, subst, ◌∙◌, arith}
 use Rattle.db_model.specs.declared.expression.Expr.{Expr}
 use Rattle.expr_text.specs.declared.fail.ExprFail.{ExprFail}
 use Rattle.expr_text.specs.declared.fail.ExprFail.TheVariants as fail
 use Rattle.expr_text.specs.declared.lexeme.Lexeme.{Lexeme}
-use Rattle.expr_text.specs.declared.lexeme.Lexeme.TheVariants as lexeme
 use Rattle.expr_text.specs.declared.lexeme.Scanned.{Scanned}
 use Rattle.expr_text.specs.declared.state.State.{State}
 use Rattle.expr_text.specs.Lexing.{Placed, is_number, front_of, lexed}

@@ -1,20 +1,18 @@
 -- The expression that formed tokens spell is well formed.
-use Rattle.std.proofs.Common.{◌≡◌, ◌≤◌, ◌<◌, ℕ, Bool, true, false, List, [], ◌∷◌, map, ◌∙◌, refl, arith}
+use Rattle.std.proofs.Common.{◌≡◌, ◌≤◌, ℕ, Bool, true, false, List, [], ◌∷◌, map, ◌∙◌, refl, arith}
 use Rattle.std.proofs.lemmas.Bool.{and_from, and_parts, le-leb, leb-true}
 use Rattle.std.specs.List.{list_all}
 use Rattle.std.specs.Prelude.{◌&&◌, nat_le}
 use Rattle.db_model.proofs.Layers.{fold_number, fold_text, fold_protocol, fold_field, fold_variable, fold_column, fold_not, fold_and, fold_or, fold_binary, fold_slice, fold_to_number, fold_length_of, fold_to_bytes, fold_has_text, fold_is_present, fold_look_up}
 use Rattle.db_model.specs.declared.expression.Expr.{Expr}
-use Rattle.db_model.specs.declared.expression.Expr.TheVariants as expr
 use Rattle.db_model.specs.declared.limits.TheConstants.{GREATEST_NUMBER}
 use Rattle.db_model.specs.Folds.{fold_expr}
-use Rattle.db_model.specs.Forms.{is_byte, form_step, nodes_of, depth_of, is_expression}
+use Rattle.db_model.specs.Forms.{is_byte, form_step, is_expression}
 use Rattle.db_model.specs.Name.{is_name}
 use Rattle.expr_text.specs.declared.token.BinaryOp.{BinaryOp}
 use Rattle.expr_text.specs.declared.token.BinaryOp.TheVariants as binary_op
 use Rattle.expr_text.specs.declared.token.Token.{Token}
 use Rattle.expr_text.specs.Grammar.{Reads, ReadsKeys, number, text, protocol, variable, column, field, group, to_number, length_of, to_bytes, has_text, is_present, look_up, slice, binary, negated, tighter, last, key}
-use Rattle.expr_text.specs.Lexing.{lexed}
 use Rattle.expr_text.specs.Refusal.{IsSpelled, IsText}
 use Rattle.expr_text.specs.Sizes.{small}
 use Rattle.expr_text.specs.Tokens.{joined_by}

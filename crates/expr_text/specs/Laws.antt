@@ -1,5 +1,5 @@
 -- The laws of the answers: each excludes every other, every text has one, and an expression that is read is well formed.
-use Rattle.std.specs.Prelude.{◌≡◌, ◌↔◌, ◌⊎◌, ℕ, Bool, true, List, Some}
+use Rattle.std.specs.Prelude.{◌≡◌, ◌↔◌, ◌⊎◌, ℕ, true, List, Some}
 use Rattle.db_model.specs.declared.expression.Expr.{Expr}
 use Rattle.db_model.specs.Forms.{is_expression}
 use Rattle.expr_text.specs.declared.token.Token.{Token}

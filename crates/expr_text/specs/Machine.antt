@@ -1,4 +1,4 @@
--- A machine over tokens, by which the parser goes. No public clause names it: the laws in proofs/ tie it to the grammar.
+-- A machine over tokens, by which the parser goes. Only `parsed` goes by it, and the laws in proofs/ tie it to the grammar.
 use Rattle.std.specs.Prelude.{ℕ, suc, Bool, true, false, nat_le, if◌then◌else◌, List, [], ◌∷◌, ◌++◌, Option, Some, None}
 use Rattle.db_model.specs.declared.expression.Expr.{Expr}
 use Rattle.db_model.specs.declared.expression.Expr.TheVariants as expr

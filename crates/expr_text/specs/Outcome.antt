@@ -1,4 +1,4 @@
--- What the machine makes of the lexemes of a text. No public clause names it.
+-- What the machine makes of the lexemes of a text. Only `parsed` goes by it.
 use Rattle.std.specs.Prelude.{◌≡◌, ◌<◌, ◌≤◌, ◌+◌, ℕ, Bool, true, false, List, [], ◌∷◌, length, drop, Option, Some, None, Result, Ok, Err}
 use Rattle.db_model.specs.declared.expression.Expr.{Expr}
 use Rattle.expr_text.specs.declared.advance.Advance.{Advance}

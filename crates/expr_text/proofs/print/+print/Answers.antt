@@ -1,5 +1,4 @@
-use Rattle.std.proofs.Common.{sym, ap, ◌∙◌, ◌++◌}
-use Rattle.expr_text.specs.Printing.{operand, printing}
+use Rattle.std.proofs.Common.{sym, ap, ◌∙◌}
 use Rattle.db_model.specs.declared.expression.Expr as expr
 use Rattle.expr_text.proofs.PrintedForms.{adds_form, two_pieces, adds_conjunction, adds_disjunction, adds_slice, printing_not, printing_and, printing_or, printing_binary, printing_slice, printing_to_number, printing_length_of, printing_to_bytes, printing_has_text, printing_look_up}
 use Rattle.expr_text.proofs.print.+print.Goals as goal
