@@ -46,7 +46,13 @@ fn is_child(
     }
 }
 
-fn second_has_child(nodes: &[Node], name: &[u8], line: u32, attribute: &[u8], value: &[u8]) -> bool {
+fn second_has_child(
+    nodes: &[Node],
+    name: &[u8],
+    line: u32,
+    attribute: &[u8],
+    value: &[u8],
+) -> bool {
     let Some(second) = nodes.get(1) else {
         return false;
     };

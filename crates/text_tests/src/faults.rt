@@ -16,7 +16,7 @@ pub fn fault_of(alloc: Global, text: &[u8]) -> Result<Fault, NoMemory> {
 }
 
 /// Texts with their faults, or none where they have elements.
-const CASES: [(&[u8], Fault); 88] = [
+const CASES: [(&[u8], Fault); 91] = [
     // what may stand at the front
     (b"", Some((1, 2))),
     (b"\xEF\xBB\xBF", Some((1, 2))),
@@ -37,7 +37,20 @@ const CASES: [(&[u8], Fault); 88] = [
     (b"<?xm", Some((1, 2))),
     (b"<?xml\n\n?", Some((3, 2))),
     (b"<!DOCTYPE a><a/>", Some((1, 1))),
+    (
+        b"<?xml version=\"1.0\"?>
+<!-- Frames of a link with a length in front. -->
+<netpdl name='link'>
+  <protocol name=\"startproto\">
+    <format><fields><field name=\"length\" type=\"fixed\" size=\"2\"/></fields></format>
+  </protocol>
+</netpdl>
+",
+        None,
+    ),
     // space and comments
+    (b"<!-- a ---><a/>", None),
+    (b"<!-- a -- b --><a/>", Some((1, 1))),
     (b" \t\r\n<a/> \t\r\n", None),
     (b"\n\n ", Some((3, 2))),
     (b"<!----><a/><!---->", None),
