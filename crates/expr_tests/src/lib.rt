@@ -2,4 +2,7 @@
 #![tactic(auto)]
 
 #[cfg(test)]
+mod evaluation;
+
+#[cfg(test)]
 mod text;
