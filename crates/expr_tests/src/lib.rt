@@ -3,6 +3,5 @@
 
 #[cfg(test)]
 mod evaluation;
-
 #[cfg(test)]
 mod text;
