@@ -66,10 +66,28 @@ const CASES: [(&[u8], u32, Decoded, Wanted, usize); 17] = [
     (b"f", 1, &[], Wanted::Lacks(Reason::NoField), 0),
     (b"f", 1, &[b"one", b"two"], Wanted::Buf(b"two"), 0),
     (b"$t.d", 1, &[], Wanted::Lacks(Reason::NoHit), 0),
-    (b"checklookuptable(t,'ab')", 1, &[], Wanted::Lacks(Reason::KeySize), 0),
-    (b"checklookuptable(t)", 1, &[], Wanted::Lacks(Reason::KeySize), 0),
+    (
+        b"checklookuptable(t,'ab')",
+        1,
+        &[],
+        Wanted::Lacks(Reason::KeySize),
+        0,
+    ),
+    (
+        b"checklookuptable(t)",
+        1,
+        &[],
+        Wanted::Lacks(Reason::KeySize),
+        0,
+    ),
     (b"checklookuptable(t,'a')", 1, &[], Wanted::Num(0), 1),
-    (b"checklookuptable(t,'a')", 0, &[], Wanted::Lacks(Reason::Questions), 0),
+    (
+        b"checklookuptable(t,'a')",
+        0,
+        &[],
+        Wanted::Lacks(Reason::Questions),
+        0,
+    ),
     (b"checklookuptable(other,'ab')", 1, &[], Wanted::Num(0), 0),
 ];
 
