@@ -4,3 +4,4 @@ mod NameCounts
 mod NamedLemmas
 mod Places
 pub mod Transfers
+mod Untold

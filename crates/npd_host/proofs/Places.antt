@@ -41,11 +41,11 @@ map-set_kept f (z ∷ xs) zero x y h e = ap (λ w. w ∷ map f xs) (e ∙ ap f (
 map-set_kept f (z ∷ xs) (suc i) x y h e = ap (λ ws. f z ∷ ws) (map-set_kept f xs i x y h e)
 
 -- one more at the end has the place that was the length
-slice_get-push_end : {X : Type 0} (xs : List X) (x : X) → slice_get (xs ++ x ∷ []) (length xs) ≡ Some x
+pub slice_get-push_end : {X : Type 0} (xs : List X) (x : X) → slice_get (xs ++ x ∷ []) (length xs) ≡ Some x
 slice_get-push_end [] x = refl
 slice_get-push_end (y ∷ ys) x = slice_get-push_end ys x
 
-slice_get-push_other : {X : Type 0} (xs : List X) (x : X) (i : ℕ) → (i ≡ length xs → ⊥) → slice_get (xs ++ x ∷ []) i ≡ slice_get xs i
+pub slice_get-push_other : {X : Type 0} (xs : List X) (x : X) (i : ℕ) → (i ≡ length xs → ⊥) → slice_get (xs ++ x ∷ []) i ≡ slice_get xs i
 slice_get-push_other [] x zero h = absurd (h refl)
 slice_get-push_other [] x (suc i) h = refl
 slice_get-push_other (y ∷ ys) x zero h = refl

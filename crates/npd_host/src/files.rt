@@ -1,6 +1,7 @@
 ghost use Rattle.std.specs.Prelude.{◌≡◌, ◌<◌, ◌≤◌, [], None, Some, IfOk, OnErr, IsSome, IsErrOf, length, take};
 ghost use Rattle.npd_host.specs.FileHost.{FileState, untold_inputs, untold_outputs, faults_of};
 
+mod ahead;
 mod faults;
 mod opened;
 mod streams;
@@ -16,7 +17,8 @@ use streams::{Sink, Source};
 /// The files and the standard streams of a runtime as a host. It tells names and counts, and nothing of
 /// content. An id is the place in the list of its inputs or of its outputs.
 ///
-/// A call that is interrupted is repeated at most 1,000 times, and then fails. A write that takes nothing
+/// Each input has a buffer of its own, so that standard input is to be opened once: what one id has read ahead
+/// no other id gives. A call that is interrupted is repeated at most 1,000 times, and then fails. A write that takes nothing
 /// fails, and so does one that would block.
 pub struct FileHost<'a, R: Files + Input + Print> {
     rt: &'a R,
@@ -84,7 +86,7 @@ impl<R: Files + Input + Print> Host for FileHost<'_, R> {
     fn open_in(&mut self, name: &str) -> Result<InId, HostFail> {
         self.faults.add(self.alloc, name)?;
         let word = opened::room(self.alloc, &mut self.inputs, name)?;
-        match streams::open(self.rt, name) {
+        match streams::open(self.rt, self.alloc, name)? {
             Some(source) => Ok(InId(opened::push(&mut self.inputs, word, source))),
             None => {
                 self.faults.raise(CallKind::OpenIn, name);

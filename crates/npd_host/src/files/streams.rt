@@ -1,5 +1,8 @@
 ghost use Rattle.std.specs.Prelude.{◌<◌, ◌≤◌, IfSome, length};
 
+use crate::files::ahead::ReadAhead;
+use db_model::NoMemory;
+use std::alloc::Global;
 use std::fs::OpenOptions;
 use std::io;
 use std::io::{ErrorKind, Read, Write};
@@ -11,11 +14,21 @@ const STANDARD: &str = "-";
 /// How often a call is made that is interrupted each time: once, and 1,000 times again.
 const MOST_CALLS: u32 = 1_001;
 
+/// How many bytes are read ahead at most.
+const AHEAD: usize = 8_192;
+
 /// What an input is read from.
 #[derive(Drop)]
-pub enum Source<S, F> {
+pub enum Origin<S, F> {
     Standard(S),
     File(F),
+}
+
+/// An input, and what was read ahead of it.
+#[derive(Drop)]
+pub struct Source<S, F> {
+    origin: Origin<S, F>,
+    ahead: ReadAhead,
 }
 
 impl<S: Read, F: Read> Source<S, F> {
@@ -23,9 +36,9 @@ impl<S: Read, F: Read> Source<S, F> {
     pub fn read(&mut self, buf: &mut [u8]) -> Option<usize>
         ensures { IfSome result (λ n. n ≤ length buf.new) }
     {
-        match self {
-            Source::Standard(input) => read_some(input, buf),
-            Source::File(file) => read_some(file, buf),
+        match &mut self.origin {
+            Origin::Standard(input) => self.ahead.read(input, buf),
+            Origin::File(file) => self.ahead.read(file, buf),
         }
     }
 }
@@ -50,12 +63,21 @@ impl<F: Write> Sink<F> {
 }
 
 /// Opens an input: a file, or standard input by the name `-`. None: it could not be opened.
-pub fn open<R: Files + Input>(rt: &R, name: &str) -> Option<Source<R::Reader, R::File>> {
-    if name == STANDARD {
-        return Some(Source::Standard(rt.reader()));
-    }
-    let file = open_file(rt, OpenOptions::new().read(true), name)?;
-    Some(Source::File(file))
+pub fn open<R: Files + Input>(
+    rt: &R,
+    alloc: Global,
+    name: &str,
+) -> Result<Option<Source<R::Reader, R::File>>, NoMemory> {
+    let ahead = ReadAhead::new(alloc, AHEAD)?;
+    let origin = if name == STANDARD {
+        Origin::Standard(rt.reader())
+    } else {
+        match open_file(rt, OpenOptions::new().read(true), name) {
+            Some(file) => Origin::File(file),
+            None => return Ok(None),
+        }
+    };
+    Ok(Some(Source { origin, ahead }))
 }
 
 /// Begins an empty output: a file, or standard output by the name `-`. None: it could not be opened.
@@ -84,7 +106,7 @@ fn open_file<R: Files>(rt: &R, options: &OpenOptions, name: &str) -> Option<R::F
 }
 
 /// Reads into the front of `buf`, and says how many bytes. None: the read failed.
-fn read_some<S: Read>(from: &mut S, buf: &mut [u8]) -> Option<usize>
+pub fn read_some<S: Read>(from: &mut S, buf: &mut [u8]) -> Option<usize>
     ensures { IfSome result (λ n. n ≤ length buf.new) }
 {
     for _ in 0..MOST_CALLS {
