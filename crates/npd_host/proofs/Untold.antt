@@ -1,5 +1,6 @@
 -- What a host of files tells after a call.
-use Rattle.std.proofs.Common.{◌≡◌, ◌≤◌, ℕ, List, [], ◌∷◌, ◌++◌, length, None, refl, arith, slice_index_or}
+use Rattle.std.proofs.Common.{◌≡◌, ◌≤◌, ℕ, List, [], ◌∷◌, ◌++◌, length, take, drop, None, refl, arith, slice_index_or}
+use Rattle.std.proofs.lemmas.Grind.{common_steps}
 use Rattle.std.proofs.lemmas.List.Elements.{All-push}
 use Rattle.std.proofs.lemmas.Option.{slice_get_past}
 use Rattle.npd_host.specs.Host.{OpensInput, OpensOutput, Took}
@@ -29,6 +30,10 @@ OpensOutput-untold names name = record {
   names = λ other apart. slice_get-push_other names name other apart;
   others = λ other apart. refl;
 }
+
+-- a list that a call gave back as it was
+pub written-back : (len : ℕ) (items new now : List (List ℕ)) → length items ≡ len → new ≡ items → items ≡ now → take len (new ++ drop (length new) items) ≡ now
+written-back len items new now h e f = rw (e, ← f, ← h) (grind (arith, common_steps))
 
 -- names keep their counts where every name does
 pub counts-kept : (old new : List NameFaults) (names : List (List ℕ)) → ((other : List ℕ) → HasCounts old other → HasCounts new other) → AllHaveCounts old names → AllHaveCounts new names

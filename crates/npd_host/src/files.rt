@@ -17,9 +17,9 @@ use streams::{Sink, Source};
 /// The files and the standard streams of a runtime as a host. It tells names and counts, and nothing of
 /// content. An id is the place in the list of its inputs or of its outputs.
 ///
-/// Each input has a buffer of its own, so that standard input is to be opened once: what one id has read ahead
-/// no other id gives. A call that is interrupted is repeated at most 1,000 times, and then fails. A write that takes nothing
-/// fails, and so does one that would block.
+/// Each input reads ahead into a buffer of its own, so small reads cost no system call each. What one id has
+/// read ahead no other gives: standard input is to be opened once. A call that is interrupted is repeated at
+/// most 1,000 times, and then fails. A write that takes nothing fails, and so does one that would block.
 pub struct FileHost<'a, R: Files + Input + Print> {
     rt: &'a R,
     alloc: Global,
