@@ -1,0 +1,5 @@
+pub mod Faults
+pub mod Forms
+pub mod Parsed
+pub mod Rules
+pub mod Words

@@ -1,0 +1,28 @@
+//! From the elements of a database text to the database that they are.
+#![tactic(auto)]
+
+mod attribute;
+mod child_table;
+mod choice;
+mod expression;
+mod fault;
+mod form;
+mod kind;
+mod levels;
+mod number;
+
+mod rule;
+mod rule_table;
+mod word;
+
+pub use child_table::{children, is_ordered};
+pub use choice::is_choice;
+pub use fault::Fault;
+pub use form::{has_form, is_parsed, is_text, is_variable_name};
+pub use number::{is_mask, number_of};
+pub use kind::{Kind, ListKind};
+pub use levels::MOST_LEVELS;
+pub use expression::{literal_of, parsed, quoted_of};
+pub use rule::{Child, Form, Need, Rule};
+pub use rule_table::rules;
+pub use word::Word;

@@ -1,0 +1,6 @@
+//! The elements of a database text.
+#![tactic(auto)]
+
+mod node;
+
+pub use node::{Attribute, Node};
