@@ -137,6 +137,10 @@ disorders rows least (n ∷ names) = if is_row rows n then (if nat_lt (place_of 
 abbrev pub has_wrong_children : Kind → List Text → Bool
 has_wrong_children k names = miscounts names (children k) || (is_ordered k && disorders (children k) 0 names)
 
+-- the names of elements
+abbrev pub names_in : List Node → List Text
+names_in ns = map (λ (n : Node). (out-Node n).name) ns
+
 -- ---- an element
 
 -- fault 27: a loopctrl in no loop

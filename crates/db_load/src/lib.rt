@@ -2,6 +2,7 @@
 #![tactic(auto)]
 
 mod attribute;
+mod child;
 mod child_table;
 mod choice;
 mod expression;

@@ -49,6 +49,7 @@ pub struct Rule {
 }
 
 /// What may stand in an element: under this name elements of this kind, in these numbers.
+#[derive(Clone, Copy)]
 pub struct Child {
     pub word: Word,
     pub kind: Kind,
