@@ -154,16 +154,24 @@ is_astray _ = false
 abbrev pub at_line : ℕ → ℕ → Bool → List Fault
 at_line line code stands = if stands then record { line = line; code = code } ∷ [] else []
 
--- the faults of an element itself
-unfoldable pub own : Kind → ℕ → ℕ → List Attribute → List Text → List Fault
-own k left line attributes names =
+-- the faults of an element's attributes
+unfoldable pub of_attributes : Kind → ℕ → List Attribute → List Fault
+of_attributes k line attributes =
     at_line line 21 (has_stray (decided k attributes) (rules k) [] attributes)
     ++ (at_line line 22 (lacks (decided k attributes) attributes (rules k))
     ++ (at_line line 23 (has_malformed false (decided k attributes) (rules k) attributes)
-    ++ (at_line line 24 (has_malformed true (decided k attributes) (rules k) attributes)
-    ++ (at_line line 25 (has_wrong_children k names)
+    ++ at_line line 24 (has_malformed true (decided k attributes) (rules k) attributes)))
+
+-- the faults of what stands in it, and of where it stands
+unfoldable pub of_place : Kind → ℕ → ℕ → List Text → List Fault
+of_place k left line names =
+    at_line line 25 (has_wrong_children k names)
     ++ (at_line line 26 (left == 0)
-    ++ at_line line 27 (is_astray k))))))
+    ++ at_line line 27 (is_astray k))
+
+-- the faults of an element itself
+abbrev pub own : Kind → ℕ → ℕ → List Attribute → List Text → List Fault
+own k left line attributes names = of_attributes k line attributes ++ of_place k left line names
 
 -- an element as the one around it sees it: its name and line, and the faults in it, by what it is there and how many levels are left
 pub record Part : Type 0 where

@@ -45,7 +45,7 @@ fn decided_by(kind: Kind) -> Option<Form>
 }
 
 /// The type by which further attributes are decided, where it is there and one of the words.
-fn decided<'a>(
+pub fn decided<'a>(
     alloc: Global,
     kind: Kind,
     attributes: &'a [Attribute],
@@ -112,7 +112,7 @@ fn has_rule(decided: Option<&[u8]>, rules: &[Rule], name: &[u8]) -> bool
 }
 
 /// Whether an attribute is unknown, or is there twice.
-fn has_stray(decided: Option<&[u8]>, rules: &[Rule], attributes: &[Attribute]) -> bool
+pub fn has_stray(decided: Option<&[u8]>, rules: &[Rule], attributes: &[Attribute]) -> bool
     ensures { result ≡ Faults.has_stray (option_copied decided.entry) rules.now [] attributes.now }
 {
     for (i, attribute) in attributes.iter().enumerate() {
@@ -125,7 +125,7 @@ fn has_stray(decided: Option<&[u8]>, rules: &[Rule], attributes: &[Attribute]) -
 }
 
 /// Whether a wanted attribute is missing.
-fn lacks(decided: Option<&[u8]>, attributes: &[Attribute], rules: &[Rule]) -> bool
+pub fn lacks(decided: Option<&[u8]>, attributes: &[Attribute], rules: &[Rule]) -> bool
     ensures { result ≡ Faults.lacks (option_copied decided.entry) attributes.now rules.now }
 {
     for rule in rules {
@@ -159,7 +159,7 @@ fn breaks(
 }
 
 /// Whether a value hasn't its form.
-fn has_malformed(
+pub fn has_malformed(
     alloc: Global,
     parsed: bool,
     decided: Option<&[u8]>,

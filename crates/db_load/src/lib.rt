@@ -14,6 +14,7 @@ mod number;
 
 mod rule;
 mod rule_table;
+mod walk;
 mod word;
 
 pub use child_table::{children, is_ordered};
@@ -26,4 +27,5 @@ pub use levels::MOST_LEVELS;
 pub use expression::{literal_of, parsed, quoted_of};
 pub use rule::{Child, Form, Need, Rule};
 pub use rule_table::rules;
+pub use walk::refusal;
 pub use word::Word;
