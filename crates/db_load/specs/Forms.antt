@@ -1,5 +1,5 @@
 -- The forms of the values of attributes.
-use Rattle.std.specs.Prelude.{ℕ, ◌%◌, Bool, true, false, ◌&&◌, if◌then◌else◌, nat_le, nat_lt, ◌==◌, List, [], ◌∷◌, length, bytes_eq, is_some, Option, Some, None}
+use Rattle.std.specs.Prelude.{ℕ, Bool, true, false, ◌&&◌, if◌then◌else◌, nat_le, nat_lt, ◌==◌, List, [], ◌∷◌, take, length, bytes_eq, is_some, Option, Some, None, Result, Ok, Err}
 use Rattle.std.specs.Char.{is_ascii_digit, is_ascii_hexdigit}
 use Rattle.std.specs.List.{list_all}
 use Rattle.std.specs.Str.Parse.{digits_value}
@@ -7,6 +7,9 @@ use Rattle.db_model.specs.declared.expression.Expr.{Expr}
 use Rattle.db_model.specs.declared.expression.Expr as expr
 use Rattle.db_model.specs.declared.expression.Literal.{Literal}
 use Rattle.db_model.specs.declared.expression.Literal.TheVariants as literal
+use Rattle.hex.specs.Hex.{decode_of}
+use Rattle.hex.specs.declared.error.FromHexError.{FromHexError}
+use Rattle.db_model.specs.declared.bytes.TheConstants.{MOST_BYTES}
 use Rattle.db_model.specs.declared.limits.TheConstants.{GREATEST_NUMBER, MOST_SEPARATOR}
 use Rattle.db_model.specs.Forms.{is_text}
 use Rattle.db_model.specs.Name.{is_name}
@@ -41,19 +44,24 @@ number_by t (Some ds) = numeral 16 (are_digits is_ascii_hexdigit 8 ds) ds
 unfoldable pub number_of : Text → Option ℕ
 number_of t = number_by t (behind_0x t)
 
--- two hex digits a byte
-abbrev pub is_pairs : Text → Bool
-is_pairs ds = length ds % 2 == 0 && list_all is_ascii_hexdigit ds
+-- what hex digits are as bytes, where there are two a byte
+abbrev pub mask_by : Result (List ℕ) FromHexError → Option (List ℕ)
+mask_by (Ok bytes) = Some (take MOST_BYTES bytes)
+mask_by (Err e) = None
 
-abbrev pub is_mask_by : Option Text → Bool
-is_mask_by None = false
-is_mask_by (Some ds) = nat_lt 0 (length ds) && is_pairs ds
+abbrev pub mask_in : Option Text → Option (List ℕ)
+mask_in None = None
+mask_in (Some ds) = if nat_lt 0 (length ds) then mask_by (decode_of ds) else None
 
--- `0x` and hex digits, an even number of them and not none
-unfoldable pub is_mask : Text → Bool
-is_mask t = is_mask_by (behind_0x t)
+-- `0x` and hex digits, an even number of them and not none. Of a mask that is longer than any key only the front is kept
+unfoldable pub mask_of : Text → Option (List ℕ)
+mask_of t = mask_in (behind_0x t)
 
 -- ---- the other forms
+
+-- a text that isn't empty
+abbrev pub is_section : Text → Bool
+is_section t = nat_lt 0 (length t) && is_text t
 
 -- `$` and a name
 abbrev pub is_variable_name : Text → Bool
@@ -89,7 +97,7 @@ is_parsed form.EntryValidity = false
 -- whether a value has the form
 unfoldable pub has_form : Form → Text → Bool
 has_form form.Text t = is_text t
-has_form form.FilledText t = nat_lt 0 (length t) && is_text t
+has_form form.FilledText t = is_section t
 has_form form.Name t = is_name t
 has_form form.VariableName t = is_variable_name t
 has_form form.Number t = is_some (number_of t)
@@ -97,7 +105,7 @@ has_form form.Expr t = is_some (parsed t)
 has_form form.Literal t = is_some (literal_of t)
 has_form form.Quoted t = is_some (quoted_of t)
 has_form form.Separator t = is_text t && nat_le (length t) MOST_SEPARATOR
-has_form form.Mask t = is_mask t
+has_form form.Mask t = is_some (mask_of t)
 has_form form.ValueType t = is_choice t words.VALUE_TYPES
 has_form form.VariableValidity t = is_choice t words.VARIABLE_VALIDITIES
 has_form form.ShowType t = is_choice t words.SHOW_TYPES

@@ -2,4 +2,5 @@ pub mod Faults
 pub mod Forms
 pub mod Parsed
 pub mod Rules
+pub mod Values
 pub mod Words

@@ -1,6 +1,6 @@
 //! Whether values have their forms.
 
-ghost use Rattle.std.specs.Prelude.{◌≡◌, IfOk};
+ghost use Rattle.std.specs.Prelude.{◌≡◌, ◌<◌, ◌≤◌, length, IfOk, IsTrue};
 ghost use Rattle.std.specs.List.{list_all};
 ghost use Rattle.db_model.specs.Forms as model;
 ghost use Rattle.db_load.specs.Forms;
@@ -10,9 +10,9 @@ use crate::choice::{
     ENTRY_VALIDITIES, FIELD_TYPES, HEADER_PARTS, LOOP_CONTROLS, LOOP_TYPES, SHOW_TYPES,
     UPDATE_ACTIONS, VALUE_TYPES, VARIABLE_VALIDITIES, is_choice,
 };
-use crate::number::{is_mask, number_of};
+use crate::number::{mask_of, number_of};
 use crate::expression::{literal_of, parsed, quoted_of};
-use db_model::{MOST_SEPARATOR, MOST_TEXT, NoMemory, is_name};
+use db_model::{MOST_NAME, MOST_SEPARATOR, MOST_TEXT, NoMemory, is_name};
 use std::alloc::Global;
 
 fn all_printable(text: &[u8]) -> bool
@@ -23,9 +23,18 @@ fn all_printable(text: &[u8]) -> bool
 
 /// Whether bytes are few enough for a text, and printable.
 pub fn is_text(text: &[u8]) -> bool
-    ensures { result ≡ model.is_text text.now }
+    ensures value { result ≡ model.is_text text.now }
+    ensures bound { IsTrue result → length text.now ≤ 64 }
 {
     text.len() <= MOST_TEXT as usize && all_printable(text)
+}
+
+/// Whether a text isn't empty and is a text.
+pub fn is_section(text: &[u8]) -> bool
+    ensures value { result ≡ Forms.is_section text.now }
+    ensures bound { IsTrue result → (0 < length text.now) × (length text.now ≤ MOST_NAME) }
+{
+    text.len() > 0 && is_text(text)
 }
 
 /// Whether a text is `$` and a name.
@@ -53,7 +62,7 @@ pub fn has_form(alloc: Global, form: Form, value: &[u8]) -> Result<bool, NoMemor
 {
     Ok(match form {
         Form::Text => is_text(value),
-        Form::FilledText => value.len() > 0 && is_text(value),
+        Form::FilledText => is_section(value),
         Form::Name => is_name(value),
         Form::VariableName => is_variable_name(value),
         Form::Number => number_of(value).is_some(),
@@ -61,7 +70,7 @@ pub fn has_form(alloc: Global, form: Form, value: &[u8]) -> Result<bool, NoMemor
         Form::Literal => literal_of(alloc, value)?.is_some(),
         Form::Quoted => quoted_of(alloc, value)?.is_some(),
         Form::Separator => is_text(value) && value.len() <= MOST_SEPARATOR as usize,
-        Form::Mask => is_mask(value),
+        Form::Mask => mask_of(alloc, value)?.is_some(),
         Form::ValueType => is_choice(value, &VALUE_TYPES),
         Form::VariableValidity => is_choice(value, &VARIABLE_VALIDITIES),
         Form::ShowType => is_choice(value, &SHOW_TYPES),

@@ -14,14 +14,15 @@ mod number;
 
 mod rule;
 mod rule_table;
+mod value;
 mod walk;
 mod word;
 
 pub use child_table::{children, is_ordered};
 pub use choice::is_choice;
 pub use fault::Fault;
-pub use form::{has_form, is_parsed, is_text, is_variable_name};
-pub use number::{is_mask, number_of};
+pub use form::{has_form, is_parsed, is_section, is_text, is_variable_name};
+pub use number::{mask_of, number_of};
 pub use kind::{Kind, ListKind};
 pub use levels::MOST_LEVELS;
 pub use expression::{literal_of, parsed, quoted_of};

@@ -1,10 +1,14 @@
 //! Numbers and masks in values.
 
-ghost use Rattle.std.specs.Prelude.{◌≡◌, ◌≤◌, ◌<◌, length, option_map};
+ghost use Rattle.std.specs.Prelude.{◌≡◌, ◌≤◌, ◌<◌, length, option_map, take, IfOk, Some};
 ghost use Rattle.std.specs.Char.{digit_value, is_ascii_digit, is_ascii_hexdigit};
 ghost use Rattle.std.specs.List.{list_all};
 ghost use Rattle.std.specs.Str.Parse.{digits_value};
 ghost use Rattle.db_load.specs.Forms;
+
+use db_model::{Bytes, MOST_BYTES, NoMemory};
+use hex::FromHexError;
+use std::alloc::Global;
 
 /// What stands behind a `0x`.
 fn behind_0x(text: &[u8]) -> Option<&[u8]>
@@ -106,19 +110,34 @@ pub fn number_of(text: &[u8]) -> Option<u32>
     }
 }
 
-fn is_pairs(digits: &[u8]) -> bool
-    ensures { result ≡ Forms.is_pairs digits.now }
+fn first_bytes(mut bytes: Vec<u8>) -> Bytes
+    ensures { result ≡ take MOST_BYTES bytes.items }
 {
-    digits.len() % 2 == 0 && all_hex_digits(digits)
+    bytes.truncate(MOST_BYTES);
+    Bytes::from_vec(bytes)
 }
 
-/// Whether a text is a mask: `0x` and two hex digits a byte, of which there is at least one.
-#[tactic(auto, unfolding(crate::specs::Forms::is_mask))]
-pub fn is_mask(text: &[u8]) -> bool
-    ensures { result ≡ Forms.is_mask text.now }
+/// The bytes that hex digits are, two digits a byte.
+fn mask_in(alloc: Global, digits: &[u8]) -> Result<Option<Bytes>, NoMemory>
+    ensures { IfOk result (λ m. m ≡ Forms.mask_in (Some digits.now)) }
+{
+    if digits.len() == 0 {
+        return Ok(None);
+    }
+    match hex::decode(alloc, digits) {
+        Ok(bytes) => Ok(Some(first_bytes(bytes))),
+        Err(FromHexError::OutOfMemory) => Err(NoMemory),
+        Err(_) => Ok(None),
+    }
+}
+
+/// The bytes of a mask, which is `0x` and two hex digits a byte, of which there is at least one.
+#[tactic(auto, unfolding(crate::specs::Forms::mask_of))]
+pub fn mask_of(alloc: Global, text: &[u8]) -> Result<Option<Bytes>, NoMemory>
+    ensures { IfOk result (λ m. m ≡ Forms.mask_of text.now) }
 {
     match behind_0x(text) {
-        Some(digits) => digits.len() > 0 && is_pairs(digits),
-        None => false,
+        Some(digits) => mask_in(alloc, digits),
+        None => Ok(None),
     }
 }
