@@ -1,3 +1,4 @@
 mod Least
+mod Means
 mod NoLiteral
 mod Parts

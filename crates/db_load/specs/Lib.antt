@@ -1,5 +1,6 @@
 pub mod Faults
 pub mod Forms
+pub mod Meaning
 pub mod Parsed
 pub mod Rules
 pub mod Values

@@ -5,6 +5,7 @@ mod attribute;
 mod child;
 mod child_table;
 mod choice;
+mod element;
 mod expression;
 mod fault;
 mod form;
@@ -14,6 +15,7 @@ mod number;
 
 mod rule;
 mod rule_table;
+mod update;
 mod value;
 mod walk;
 mod word;

@@ -153,7 +153,7 @@ pub fn token_by(alloc: Global, value: Option<&[u8]>) -> Result<Bytes, NoMemory>
     }
 }
 
-fn is_word(value: Option<&[u8]>, word: Word) -> bool
+pub fn is_word(value: Option<&[u8]>, word: Word) -> bool
     ensures { result ≡ Values.is_word (option_copied value.entry) word }
 {
     match value {
