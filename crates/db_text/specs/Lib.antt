@@ -1,0 +1,9 @@
+pub mod Answer
+pub mod Grammar
+pub mod Laws
+pub mod Machine
+pub mod Outcome
+pub mod Refusal
+pub mod Runs
+pub mod Text
+pub mod Tree

@@ -1,0 +1,12 @@
+//! The laws of the answers, each the contract of a function that does nothing.
+
+ghost use Rattle.db_text.specs.Laws.{HasAnswer, OneElement, ExcludesRefusal, OneRefusal};
+
+/// Each text has exactly one answer: it is that of an element, or it is refused with a line and a code; it is that
+/// of at most one element, then it is not refused, and one that is refused has one line and one code.
+pub fn one_answer()
+    ensures some { HasAnswer }
+    ensures elements { OneElement }
+    ensures refused { ExcludesRefusal }
+    ensures faults { OneRefusal }
+{}
