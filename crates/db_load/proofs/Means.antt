@@ -9,7 +9,12 @@ use Rattle.db_text.specs.declared.node.Node.{Node, out-Node, map-Node}
 use Rattle.db_text.specs.declared.node.Node.TheFolds.{fold-Node, fold_out-Node}
 use Rattle.db_load.specs.declared.kind.Kind.{Kind}
 use Rattle.db_load.specs.declared.word.Word.{Word}
-use Rattle.db_load.specs.Meaning.{Meant, meant, meant_step, layer, element_by, list_by, named}
+use Rattle.db_load.specs.declared.rule.Child.{Child}
+use Rattle.db_load.specs.declared.kind.Kind.TheVariants as kind
+use Rattle.db_load.specs.declared.kind.ListKind.{ListKind}
+use Rattle.db_model.specs.declared.element.Branch.{Branch}
+use Rattle.db_load.specs.Faults.{row_of}
+use Rattle.db_load.specs.Meaning.{Meant, meant, meant_step, layer, element_by, list_by, named, first_named, placed, branch_from, branch_by}
 use Rattle.db_load.specs.Rules.{children}
 use Rattle.db_load.specs.Words.{spelled}
 use Rattle.db_load.proofs.Parts.{first_left}
@@ -57,3 +62,24 @@ module _ {A : Type 0} (w : Word) (f : Meant → A) where
       ∙ (append_assoc got (named w f (meant n ∷ [])) (named w f (map meant (drop (i + 1) ns)))
       ∙ (ap (λ l. got ++ l) (sym (ap (λ l. named w f (map meant l)) (first_left ns i n hi en) ∙ named_first (bytes_eq (meant n).name (spelled w)) (f (meant n)) (named w f (map meant (drop (i + 1) ns)))))
       ∙ h))
+
+  pub first_so : (ns : List Node) (i : ℕ) (n : Node) (name : Text) (a : A) (whole : Option A) → i < length ns → n ≡ get_or ns i n → name ≡ (out-Node n).name → bytes_eq name (spelled w) ≡ true → a ≡ f (meant n) → first_named w f (map meant (drop i ns)) ≡ whole → Some a ≡ whole
+  first_so ns i n name a whole hi en ename h ea e =
+      ap Some ea ∙ (sym (ap (λ l. first_named w f (map meant l)) (first_left ns i n hi en) ∙ ap (λ (b : Bool). if b then Some (f (meant n)) else first_named w f (map meant (drop (i + 1) ns))) (ap (λ t. bytes_eq t (spelled w)) (meant_name n ∙ sym ename) ∙ h)) ∙ e)
+
+  pub first_not : (ns : List Node) (i : ℕ) (n : Node) (name : Text) (whole : Option A) → i < length ns → n ≡ get_or ns i n → name ≡ (out-Node n).name → bytes_eq name (spelled w) ≡ false → first_named w f (map meant (drop i ns)) ≡ whole → first_named w f (map meant (drop (i + 1) ns)) ≡ whole
+  first_not ns i n name whole hi en ename h e =
+      sym (ap (λ l. first_named w f (map meant l)) (first_left ns i n hi en) ∙ ap (λ (b : Bool). if b then Some (f (meant n)) else first_named w f (map meant (drop (i + 1) ns))) (ap (λ t. bytes_eq t (spelled w)) (meant_name n ∙ sym ename) ∙ h)) ∙ e
+
+-- ---- a list of elements
+
+pub list_step : (rows : List Child) (ns : List Node) (i : ℕ) (n : Node) (name : Text) (row : Option Child) (got now whole : List Element) → i < length ns → n ≡ get_or ns i n → name ≡ (out-Node n).name → row ≡ row_of rows name → now ≡ got ++ placed row (meant n) → got ++ list_by rows (map meant (drop i ns)) ≡ whole → now ++ list_by rows (map meant (drop (i + 1) ns)) ≡ whole
+list_step rows ns i n name row got now whole hi en ename erow e h =
+    ap (λ l. l ++ list_by rows (map meant (drop (i + 1) ns))) e
+    ∙ (append_assoc got (placed row (meant n)) (list_by rows (map meant (drop (i + 1) ns)))
+    ∙ (ap (λ l. got ++ l) (sym (ap (λ l. list_by rows (map meant l)) (first_left ns i n hi en) ∙ ap (λ r. placed r (meant n) ++ list_by rows (map meant (drop (i + 1) ns))) (ap (row_of rows) (meant_name n ∙ sym ename) ∙ sym erow)))
+    ∙ h))
+
+-- a branch of its line and its elements
+pub branch_of : (l : ListKind) (n : Node) (body : List Element) → body ≡ (meant n).body (kind.Branch l) → branch_from (out-Node n).line body ≡ branch_by l (meant n)
+branch_of l n body e = ap (λ b. branch_from (out-Node n).line b) e ∙ ap (λ line. branch_from line ((meant n).body (kind.Branch l))) (sym (meant_line n))

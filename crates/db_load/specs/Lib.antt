@@ -4,4 +4,5 @@ pub mod Meaning
 pub mod Parsed
 pub mod Rules
 pub mod Values
+pub mod Whole
 pub mod Words

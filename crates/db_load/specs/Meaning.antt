@@ -8,6 +8,7 @@ use Rattle.db_model.specs.declared.element.FieldForm.{FieldForm}
 use Rattle.db_model.specs.declared.element.FieldForm.TheVariants as form
 use Rattle.db_model.specs.declared.element.UpdateKey.{UpdateKey}
 use Rattle.db_model.specs.declared.element.UpdateValue.{UpdateValue}
+use Rattle.db_model.specs.declared.expression.Expr.{Expr}
 use Rattle.db_model.specs.Names.{Text}
 use Rattle.db_text.specs.declared.node.Attribute.{Attribute}
 use Rattle.db_text.specs.declared.node.Node.{Node, Node-F, out-Node, map-Node}
@@ -76,8 +77,11 @@ form_by a =
 abbrev pub case_by : ListKind → Meant → Case
 case_by l m = record { line = m.line; value = number_by (at m.attributes word.Value); maxvalue = unwrap_or (optional_number_by (at m.attributes word.MaxValue)) (number_by (at m.attributes word.Value)); body = m.body (kind.Case l) }
 
+abbrev pub branch_from : ℕ → List Element → Branch
+branch_from line body = record { line = line; body = body }
+
 abbrev pub branch_by : ListKind → Meant → Branch
-branch_by l m = record { line = m.line; body = m.body (kind.Branch l) }
+branch_by l m = branch_from m.line (m.body (kind.Branch l))
 
 abbrev pub key_by : Meant → UpdateKey
 key_by m = record { line = m.line; value = expr_by (at m.attributes word.Value); mask = mask_by (at m.attributes word.Mask) }
@@ -85,14 +89,10 @@ key_by m = record { line = m.line; value = expr_by (at m.attributes word.Value);
 abbrev pub value_by : Meant → UpdateValue
 value_by m = record { line = m.line; value = expr_by (at m.attributes word.Value) }
 
--- the line and the elements of a condition's first branch
-abbrev pub line_in : Option Branch → ℕ
-line_in None = 0
-line_in (Some b) = b.line
-
-abbrev pub body_in : Option Branch → List Element
-body_in None = []
-body_in (Some b) = b.body
+-- a condition of its branches
+abbrev pub condition : ℕ → Expr → Option Branch → Option Branch → Element
+condition line e None other = element.If line e 0 [] other
+condition line e (Some b) other = element.If line e b.line b.body other
 
 -- ---- elements
 
@@ -115,7 +115,7 @@ abbrev pub switch_by : ListKind → Node-F Meant → Element
 switch_by l x = element.Switch x.line (expr_by (at x.attributes word.Expr)) (named word.Case (case_by l) x.children) (first_named word.Default (branch_by l) x.children)
 
 abbrev pub condition_by : ListKind → Node-F Meant → Element
-condition_by l x = element.If x.line (expr_by (at x.attributes word.Expr)) (line_in (first_named word.IfTrue (branch_by l) x.children)) (body_in (first_named word.IfTrue (branch_by l) x.children)) (first_named word.IfFalse (branch_by l) x.children)
+condition_by l x = condition x.line (expr_by (at x.attributes word.Expr)) (first_named word.IfTrue (branch_by l) x.children) (first_named word.IfFalse (branch_by l) x.children)
 
 abbrev pub assign_by : Node-F Meant → Element
 assign_by x = element.Assign x.line (variable_name_by (at x.attributes word.Name)) (expr_by (at x.attributes word.Value))

@@ -14,7 +14,7 @@ use crate::value::{
     optional_number_by, text_by, token_by, validity_by, variable_name_by,
 };
 use crate::{Child, Kind, ListKind, Word, children};
-use db_model::{Branch, Case, Element, FieldForm, NoMemory};
+use db_model::{Branch, Case, Element, Expr, FieldForm, NoMemory};
 use db_text::{Attribute, Node};
 use sqlite_items::Items;
 use std::alloc::Global;
@@ -216,14 +216,10 @@ fn condition(alloc: Global, of: ListKind, node: &Node) -> Result<Element, NoMemo
     ensures { IfOk result (λ e. e ≡ Meaning.condition_by of (Meaning.layer node.now)) }
 {
     let nodes = node.children.as_slice();
+    let expr = expr_by(alloc, value_of(node.attributes.as_slice(), Word::Expr))?;
     let so = branch(alloc, of, Word::IfTrue, nodes)?;
-    Ok(Element::If {
-        line: node.line,
-        expr: expr_by(alloc, value_of(node.attributes.as_slice(), Word::Expr))?,
-        true_line: line_in(&so),
-        if_true: body_in(alloc, so),
-        if_false: branch(alloc, of, Word::IfFalse, nodes)?,
-    })
+    let otherwise = branch(alloc, of, Word::IfFalse, nodes)?;
+    Ok(condition_of(alloc, node.line, expr, so, otherwise))
 }
 
 #[cycle(conversion)]
@@ -281,20 +277,33 @@ fn branch(
     Ok(None)
 }
 
-fn line_in(branch: &Option<Branch>) -> u32
-    ensures { result ≡ Meaning.line_in branch.now }
+/// A condition of its parts.
+fn condition_of(
+    alloc: Global,
+    line: u32,
+    expr: Expr,
+    so: Option<Branch>,
+    otherwise: Option<Branch>,
+) -> Element
+    ensures { result ≡ Meaning.condition line expr so otherwise }
 {
-    match branch {
-        Some(branch) => branch.line,
-        None => 0,
-    }
-}
-
-fn body_in(alloc: Global, branch: Option<Branch>) -> Items<Element>
-    ensures { result ≡ Meaning.body_in branch }
-{
-    match branch {
-        Some(Branch { body, .. }) => body,
-        None => Items::new(alloc),
+    match so {
+        Some(Branch {
+            line: true_line,
+            body,
+        }) => Element::If {
+            line,
+            expr,
+            true_line,
+            if_true: body,
+            if_false: otherwise,
+        },
+        None => Element::If {
+            line,
+            expr,
+            true_line: 0,
+            if_true: Items::new(alloc),
+            if_false: otherwise,
+        },
     }
 }
