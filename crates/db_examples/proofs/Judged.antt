@@ -6,7 +6,7 @@ use Rattle.db_model.specs.declared.expression.Expr.TheBlock.{hidden-the_row-Expr
 use Rattle.db_model.specs.BlockFaults.{fault_45, fault_46}
 use Rattle.db_examples.specs.Examples.{DatabasesAreJudged, SizesAreTyped}
 use Rattle.db_model.specs.Forms.{is_expression}
-use Rattle.db_model.specs.Name.{is_name, is_operator_word, is_function_word}
+use Rattle.db_model.specs.Name.{is_name, reserved, spelling}
 use Rattle.db_model.specs.NameFaults.{fault_40, fault_41}
 use Rattle.db_model.specs.NumberFaults.{fault_43, fault_44}
 use Rattle.db_model.specs.Numbering.{counts_of, names_of, field_names}
@@ -18,7 +18,7 @@ use Rattle.db_model.specs.TypeFaults.{fault_42, fault_47}
 use Rattle.db_model.specs.Typing.{type_of}
 
 pub databases_are_judged : DatabasesAreJudged
-unfolding is_shaped is_expression objection faults fault_40 fault_41 fault_42 fault_43 fault_44 fault_45 fault_46 fault_47 type_of counts_of names_of field_names sessions_db table_db hidden-the_row-Element-0 hidden-the_row-Case-1 hidden-the_row-Expr-0 hidden-the_row-Expr-1 hidden is_name is_operator_word is_function_word
+unfolding is_shaped is_expression objection faults fault_40 fault_41 fault_42 fault_43 fault_44 fault_45 fault_46 fault_47 type_of counts_of names_of field_names sessions_db table_db hidden-the_row-Element-0 hidden-the_row-Case-1 hidden-the_row-Expr-0 hidden-the_row-Expr-1 hidden is_name reserved spelling
 databases_are_judged = record {
   sessions_shaped = refl;
   sessions_accepted = refl;

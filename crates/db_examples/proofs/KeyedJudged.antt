@@ -5,7 +5,7 @@ use Rattle.db_model.specs.declared.element.Element.TheBlock.{hidden-the_row-Elem
 use Rattle.db_model.specs.declared.expression.Expr.TheBlock.{hidden-the_row-Expr-0, hidden-the_row-Expr-1}
 use Rattle.db_model.specs.BlockFaults.{fault_45, fault_46}
 use Rattle.db_model.specs.Forms.{is_expression}
-use Rattle.db_model.specs.Name.{is_name, is_operator_word, is_function_word}
+use Rattle.db_model.specs.Name.{is_name, reserved, spelling}
 use Rattle.db_model.specs.NameFaults.{fault_40, fault_41}
 use Rattle.db_model.specs.NumberFaults.{fault_43, fault_44}
 use Rattle.db_model.specs.Numbering.{counts_of, names_of, field_names}
@@ -25,11 +25,11 @@ use Rattle.db_model.specs.TypeFaults.{fault_42, fault_47}
 use Rattle.db_model.specs.Typing.{type_of}
 
 pub keyed_shaped : is_shaped keyed_db ≡ true
-unfolding is_shaped is_expression objection faults fault_40 fault_41 fault_42 fault_43 fault_44 fault_45 fault_46 fault_47 type_of counts_of names_of field_names keyed_db hidden-the_row-Element-0 hidden-the_row-Case-1 hidden-the_row-Expr-0 hidden-the_row-Expr-1 hidden is_name is_operator_word is_function_word
+unfolding is_shaped is_expression objection faults fault_40 fault_41 fault_42 fault_43 fault_44 fault_45 fault_46 fault_47 type_of counts_of names_of field_names keyed_db hidden-the_row-Element-0 hidden-the_row-Case-1 hidden-the_row-Expr-0 hidden-the_row-Expr-1 hidden is_name reserved spelling
 keyed_shaped = refl
 
 pub keyed_accepted : objection keyed_db ≡ None
-unfolding is_shaped is_expression objection faults fault_40 fault_41 fault_42 fault_43 fault_44 fault_45 fault_46 fault_47 type_of counts_of names_of field_names keyed_db hidden-the_row-Element-0 hidden-the_row-Case-1 hidden-the_row-Expr-0 hidden-the_row-Expr-1 hidden is_name is_operator_word is_function_word
+unfolding is_shaped is_expression objection faults fault_40 fault_41 fault_42 fault_43 fault_44 fault_45 fault_46 fault_47 type_of counts_of names_of field_names keyed_db hidden-the_row-Element-0 hidden-the_row-Case-1 hidden-the_row-Expr-0 hidden-the_row-Expr-1 hidden is_name reserved spelling
 keyed_accepted = refl
 
 abbrev pub made : ℕ → List VarDecl → List TableDecl → List ShowTemplate → List SumTemplate → List Protocol → Database

@@ -1,3 +1,8 @@
+pub mod Elements
+pub mod Faults
+pub mod Protocols
+pub mod Tables
+pub mod Expressions
 pub mod Worked
 pub mod Judged
 pub mod Rules

@@ -1,8 +1,14 @@
+pub mod Cases
+pub mod ElementExamples
 pub mod Examples
+pub mod FaultExamples
 pub mod KeyedSample
+pub mod ProtocolExamples
 pub mod RuleExamples
 pub mod RuleSamples
 pub mod Samples
 pub mod SessionPackets
 pub mod SessionSample
+pub mod TableExamples
 pub mod TableSample
+pub mod ValueExamples

@@ -7,6 +7,11 @@ mod values;
 
 ghost use Rattle.db_examples.specs.Examples.{SessionIsHit, EmptyPacket, ShortPacket, TurnsEnd, RightSideAlone, DeadlineIsEnd, FullTable, TimeRunsBackwards, MaskedAddsOnHit, FirstFrame, ExpressionsGive, DatabasesAreJudged, SizesAreTyped};
 ghost use Rattle.db_examples.specs.RuleExamples.{RenewalKeepsPlace, LeastDeadlineGoes, RoomKeepsAll, ExactFirst, KeyBeforeQuestion, BlockBeforeBody, BreakRestoresLimit, NoteIsInnermost, EndBeforeProtocols};
+ghost use Rattle.db_examples.specs.ElementExamples.{LoopsRun, ExtentsEnd, BitsAreShifted, FieldsAreNumbered, BudgetsAreSpent};
+ghost use Rattle.db_examples.specs.ValueExamples.{OperatorsGive, FormsGive, SpecialsGive, NamesMean, TypesFit};
+ghost use Rattle.db_examples.specs.ProtocolExamples.{ProtocolsBegin, PacketsBegin};
+ghost use Rattle.db_examples.specs.TableExamples.{TablesAnswer, UpdatesAsk, OneMaskOfTwo, LogsDiffer};
+ghost use Rattle.db_examples.specs.FaultExamples.{BitGroups, EntriesAreBounded, TimesOfUpdates, LeastLineFirst, FaultsAreFound, CirclesAreFound, BlocksNest, ChainsOfIncludes};
 
 pub use values::keyed_database;
 
@@ -118,4 +123,124 @@ pub fn note_is_innermost()
 /// The end of the packet is found before the last protocol that may be entered.
 pub fn end_before_protocols()
     ensures { EndBeforeProtocols }
+{}
+
+/// Loops run to their end, and continue and break leave the innermost one.
+pub fn loops_run()
+    ensures { LoopsRun }
+{}
+
+/// Where fields end, at the limit and past it.
+pub fn extents_end()
+    ensures { ExtentsEnd }
+{}
+
+/// The values of bit fields of several bytes.
+pub fn bits_are_shifted()
+    ensures { BitsAreShifted }
+{}
+
+/// The numbers of fields and blocks, in branches that were not taken and in named blocks too.
+pub fn fields_are_numbered()
+    ensures { FieldsAreNumbered }
+{}
+
+/// In which order an element finds its reasons, and that no turn is wanted where none is made.
+pub fn budgets_are_spent()
+    ensures { BudgetsAreSpent }
+{}
+
+/// Each operator that evaluates both sides.
+pub fn operators_give()
+    ensures { OperatorsGive }
+{}
+
+/// Each other form without names.
+pub fn forms_give()
+    ensures { FormsGive }
+{}
+
+/// Each special variable, one of them beside a declared one of its name.
+pub fn specials_give()
+    ensures { SpecialsGive }
+{}
+
+/// A name means the field that was decoded last under it.
+pub fn names_mean()
+    ensures { NamesMean }
+{}
+
+/// Types, and which cause comes first where there is none.
+pub fn types_fit()
+    ensures { TypesFit }
+{}
+
+/// What a protocol leaves to the next: rows and variables, and no field.
+pub fn protocols_begin()
+    ensures { ProtocolsBegin }
+{}
+
+/// What a packet leaves to the next: the tables alone.
+pub fn packets_begin()
+    ensures { PacketsBegin }
+{}
+
+/// Which entry answers, what a renewal changes, and where an entry is put.
+pub fn tables_answer()
+    ensures { TablesAnswer }
+{}
+
+/// What an update asks, and when it asks nothing.
+pub fn updates_ask()
+    ensures { UpdatesAsk }
+{}
+
+/// Two keys of which one has a mask.
+pub fn one_mask_of_two()
+    ensures { OneMaskOfTwo }
+{}
+
+/// Where a log that is asked again differs first, with both answers.
+pub fn logs_differ()
+    ensures { LogsDiffer }
+{}
+
+/// Bit fields that are followed by their like, and those that aren't.
+pub fn bit_groups()
+    ensures { BitGroups }
+{}
+
+/// How many entries one table and all tables may have.
+pub fn entries_are_bounded()
+    ensures { EntriesAreBounded }
+{}
+
+/// The times and masks that each kind of entry wants.
+pub fn times_of_updates()
+    ensures { TimesOfUpdates }
+{}
+
+/// Of all faults the one with the least line, then the least code.
+pub fn least_line_first()
+    ensures { LeastLineFirst }
+{}
+
+/// All faults of expressions that have several.
+pub fn faults_are_found()
+    ensures { FaultsAreFound }
+{}
+
+/// Named blocks that include themselves.
+pub fn circles_are_found()
+    ensures { CirclesAreFound }
+{}
+
+/// How deep blocks, loops and included blocks may stand in one another.
+pub fn blocks_nest()
+    ensures { BlocksNest }
+{}
+
+/// Chains of as many blocks as may be included in one another, and of one more.
+pub fn chains_of_includes()
+    ensures { ChainsOfIncludes }
 {}

@@ -1,10 +1,11 @@
 ghost use Rattle.std.specs.Prelude.{◌≡◌, ◌∷◌, [], IfOk};
 ghost use Rattle.db_examples.specs.KeyedSample.{keyed_db, start};
 ghost use Rattle.db_examples.specs.TableSample.{one_table};
+ghost use Rattle.db_model.specs.NameIndex.{IsIndex};
 
 use db_model::{
     CheckedDb, ColumnDecl, Database, Element, ElementList, FieldForm, Format, KeyDecl, Name,
-    NoMemory, Protocol, TableDecl, Ty,
+    NameIndex, NoMemory, Protocol, TableDecl, Ty,
 };
 use sqlite_items::Items;
 use std::alloc::Global;
@@ -27,15 +28,17 @@ pub fn keyed_database(alloc: Global) -> Result<CheckedDb, NoMemory>
         sum_templates: Items::new(alloc),
         protocols: only(alloc, start(alloc)?)?,
     };
-    Ok(sealed(database))
+    let names = NameIndex::of(alloc, &database)?;
+    Ok(sealed(database, names))
 }
 
 #[tactic(auto, using(crate::proofs::KeyedJudged::keyed_shaped, crate::proofs::KeyedJudged::keyed_accepted))]
-fn sealed(database: Database) -> CheckedDb
-    requires { database ≡ keyed_db }
+fn sealed(database: Database, names: NameIndex) -> CheckedDb
+    requires database { database ≡ keyed_db }
+    requires names { IsIndex database names }
     ensures { result ≡ keyed_db }
 {
-    CheckedDb::seal(database)
+    CheckedDb::seal(database, names)
 }
 
 fn only<T: Drop>(alloc: Global, item: T) -> Result<Items<T>, NoMemory>

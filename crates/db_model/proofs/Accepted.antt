@@ -10,7 +10,7 @@ use Rattle.db_model.specs.declared.database.Database.{Database}
 use Rattle.db_model.specs.BlockFaults.{fault_45, fault_46}
 use Rattle.db_model.specs.Lines.{Lines, over, lines_in}
 use Rattle.db_model.specs.NameFaults.{fault_40, fault_41}
-use Rattle.db_model.specs.NumberFaults.{own_43, tables_43, template_43, first_of, too_many, fault_43, fault_44}
+use Rattle.db_model.specs.NumberFaults.{own_43, tables_43, template_43, first_line, too_many, fault_43, fault_44}
 use Rattle.db_model.specs.Objection.{Fault, coded, faults, least, objection}
 use Rattle.db_model.specs.TypeFaults.{fault_42, fault_47}
 
@@ -71,7 +71,7 @@ no_faults db e =
 
 -- ---- how many are declared
 
-first_none : (ls : Lines) → first_of ls ≡ [] → ls ≡ []
+first_none : (ls : Lines) → first_line ls ≡ [] → ls ≡ []
 first_none [] e = refl
 first_none (l ∷ ls) e = (cc)
 

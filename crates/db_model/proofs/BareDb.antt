@@ -9,7 +9,7 @@ use Rattle.db_model.specs.declared.database.TableDecl.{TableDecl}
 use Rattle.db_model.specs.declared.database.VarDecl.{VarDecl}
 use Rattle.db_model.specs.Bare.{bare}
 use Rattle.db_model.specs.BlockFaults.{fault_45, fault_46}
-use Rattle.db_model.specs.Name.{is_name, is_operator_word, is_function_word}
+use Rattle.db_model.specs.Name.{is_name, reserved, spelling}
 use Rattle.db_model.specs.NameFaults.{fault_40, fault_41}
 use Rattle.db_model.specs.Names.{Text, startproto}
 use Rattle.db_model.specs.NumberFaults.{fault_43, fault_44}
@@ -19,7 +19,7 @@ use Rattle.db_model.specs.Shape.{is_shaped}
 use Rattle.db_model.specs.TypeFaults.{fault_42, fault_47}
 
 pub bare_shaped : is_shaped bare ≡ true
-unfolding is_shaped is_name is_operator_word is_function_word
+unfolding is_shaped is_name reserved spelling
 bare_shaped = refl
 
 pub bare_accepted : objection bare ≡ None

@@ -9,7 +9,7 @@ use Rattle.std.proofs.lemmas.Bool.Decides.{Decides-and, same_from_decides, Decid
 use Rattle.db_model.specs.declared.database.TableDecl.{TableDecl}
 use Rattle.db_model.specs.declared.entry.Entry.{Entry}
 use Rattle.db_model.specs.Laws.{TableKeeps}
-use Rattle.db_model.specs.Table.{Parts, KeyList, empty, same_keys, same_place, replace, sooner, soonest, evict, put_in_full, put_in, put_by, put, entry_at, add, renewed_by, answered, found, look}
+use Rattle.db_model.specs.Table.{Parts, KeyList, empty, same_keys, same_place, replace, sooner, soonest, evict, put_in_full, put_in, put_by, put, entry_at, add, renewed_by, answered, matching_entry, look}
 use Rattle.db_model.specs.declared.entry.NewEntry.{NewEntry}
 use Rattle.db_model.specs.declared.entry.Validity.{Validity}
 use Rattle.db_model.specs.declared.entry.Validity.TheVariants.{Forever, MaxTime, UpdateOnHit, AddOnHit}
@@ -50,15 +50,15 @@ abbrev Apart : List Entry → Type 0
 Apart [] = Unit {0}
 Apart (e ∷ es) = NoneLike e es × Apart es
 
-or_first : (a b : Bool) → (a || b) ≡ false → a ≡ false
+pub or_first : (a b : Bool) → (a || b) ≡ false → a ≡ false
 or_first true b h = h
 or_first false b h = refl
 
-or_second : (a b : Bool) → (a || b) ≡ false → b ≡ false
+pub or_second : (a b : Bool) → (a || b) ≡ false → b ≡ false
 or_second true b h = (cc)
 or_second false b h = h
 
-or_none : (a b : Bool) → a ≡ false → b ≡ false → (a || b) ≡ false
+pub or_none : (a b : Bool) → a ≡ false → b ≡ false → (a || b) ≡ false
 or_none true b h k = h
 or_none false b h k = k
 
@@ -130,11 +130,11 @@ min_is s r = elim (cases_lt s r) [ inl h ↦ inl (omega arith) | inr h ↦ inr (
 equal_so : (s t : ℕ) → s ≡ t → (s == t) ≡ true
 equal_so s t h = (Decides-eqb s t).1 h
 
-or_left : (a b : Bool) → a ≡ true → (a || b) ≡ true
+pub or_left : (a b : Bool) → a ≡ true → (a || b) ≡ true
 or_left true b k = refl
 or_left false b k = (cc)
 
-or_right : (a b : Bool) → b ≡ true → (a || b) ≡ true
+pub or_right : (a b : Bool) → b ≡ true → (a || b) ≡ true
 or_right true b k = refl
 or_right false b k = k
 
@@ -169,6 +169,22 @@ push_length (d ∷ es) e = ap suc (push_length es e)
 record Part (room : ℕ) (es : List Entry) : Type 0 where
   apart : Apart es
   within : length es ≤ room
+
+-- a part stays within its declared length, whatever stands in it
+pub put_in_within : (room : ℕ) (e : Entry) (es : List Entry) → length es ≤ room → length (put_in room e es) ≤ room
+put_in_within room e es h = by (list_any (same_place e) es)
+  where
+    full : (o : Option ℕ) → soonest es ≡ o → length (put_in_full o e es) ≤ room
+    full None k = h
+    full (Some t) k = omega (arith, push_length (evict t es) e, length_evict t es (soonest_there t es k), h)
+
+    by_room : (b : Bool) → nat_lt (length es) room ≡ b → length (if b then es ++ e ∷ [] else put_in_full (soonest es) e es) ≤ room
+    by_room true k = omega (arith, push_length es e, (Decides-ltb (length es) room).0 k)
+    by_room false k = full (soonest es) refl
+
+    by : (b : Bool) → length (if b then replace e es else (if nat_lt (length es) room then es ++ e ∷ [] else put_in_full (soonest es) e es)) ≤ room
+    by true = omega (arith, length_replace e es, h)
+    by false = by_room (nat_lt (length es) room) refl
 
 put_in_keeps : (room : ℕ) (e : Entry) (es : List Entry) → Part room es → Part room (put_in room e es)
 put_in_keeps room e es h = by (list_any (same_place e) es) refl
@@ -294,7 +310,7 @@ renewed_kept AddOnHit d t keys now e h = put_kept d t _ h
 
 pub look_kept : (d : TableDecl) (t : Parts) (keys : KeyList) (renew : Bool) (now : ℕ) → Kept d t → Kept d (look d t keys renew now).1
 unfolding look
-look_kept d t keys renew now h = by (found t keys now) renew
+look_kept d t keys renew now h = by (matching_entry t keys now) renew
   where
     by : (o : Option Entry) (r : Bool) → Kept d (answered d t keys r now o).1
     by None r = h

@@ -4,13 +4,12 @@ use Rattle.std.proofs.Common.{refl, sym, ap, subst, ◌∙◌, arith}
 use Rattle.std.proofs.lemmas.List.{append_cancel_left}
 use Rattle.db_model.specs.declared.limits.TheConstants.{MOST_NESTED}
 use Rattle.db_model.specs.declared.packet.Packet.{Packet}
-use Rattle.db_model.specs.Chain.{elements_of}
 use Rattle.db_model.specs.Decoding.{dec, decoding}
 use Rattle.db_model.specs.Laws.{UnchangedDecoding, UnchangedComputation, DiffersNowhere, AgreesInParts, SessionOfDecoding, SerialFrom, SerialFront, IncludesEnd, CarriesState}
 use Rattle.db_model.specs.Questions.{Log, play, from_play}
 use Rattle.db_model.specs.Replay.{after, Agrees}
 use Rattle.db_model.specs.Serial.{decoded, state}
-use Rattle.db_model.proofs.Includes.{includes_fit, list_more}
+use Rattle.db_model.proofs.Includes.{names_fit, included_more, included_from}
 use Rattle.db_model.proofs.Play.{unchanged, session_after, agrees_here, agrees_append, agrees_first, agrees_rest, from_then}
 use Rattle.db_model.proofs.Replay.{differs_none, none_differs}
 use Rattle.db_model.proofs.Serial.{state_from, decoded_from}
@@ -58,4 +57,7 @@ carries_state S A B = record {
 }
 
 pub includes_end : IncludesEnd
-includes_end db q p h g = list_more db p MOST_NESTED (elements_of p) (includes_fit db q p h.accepted g)
+includes_end = record {
+  is_block = λ db q p name h g. included_more db p MOST_NESTED name (names_fit db q p h.accepted g name);
+  more_levels = λ db q p name n h g k. included_from db p MOST_NESTED n name k (names_fit db q p h.accepted g name);
+}

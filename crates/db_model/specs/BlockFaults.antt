@@ -1,5 +1,5 @@
 -- The faults of included blocks: one that includes itself (45), and blocks and loops that stand too deep in one another (46).
-use Rattle.std.specs.Prelude.{ℕ, zero, suc, Bool, true, false, not, ◌||◌, ◌&&◌, List, [], ◌∷◌, ◌++◌, map, length, bytes_eq, Option, Some, None}
+use Rattle.std.specs.Prelude.{◌≡◌, ℕ, zero, suc, Bool, true, false, not, ◌||◌, ◌&&◌, List, [], ◌∷◌, ◌++◌, map, length, bytes_eq, is_some, Option, Some, None}
 use Rattle.std.specs.List.{list_any, list_all}
 use Rattle.db_model.specs.declared.database.Database.{Database}
 use Rattle.db_model.specs.declared.database.NamedBlock.{NamedBlock}
@@ -40,6 +40,15 @@ included_by (Some b) = includes_in b.body
 
 -- ---- a block that includes itself
 
+-- a name includes another: it stands in the block of the one
+abbrev pub Includes : Protocol → Text → Text → Type 0
+Includes p a b = list_any (bytes_eq b) (included_by (block_at p a)) ≡ true
+
+-- a name includes another at once, or through others, however many
+pub data Reaches (p : Protocol) : Text → Text → Type 0 where
+  AtOnce : (a b : Text) → Includes p a b → Reaches p a b
+  Through : (a b c : Text) → Includes p a b → Reaches p b c → Reaches p a c
+
 -- whether a block is among the names, or is included by one of them through at most so many others
 abbrev pub reaches : Protocol → Text → ℕ → List Text → Bool
 reaches p goal zero names = list_any (bytes_eq goal) names
@@ -49,10 +58,19 @@ reaches p goal (suc n) names = list_any (bytes_eq goal) names || list_any (λ na
 abbrev pub includes_itself : Protocol → NamedBlock → Bool
 includes_itself p b = reaches p b.name (length (blocks_in p.format)) (includes_in b.body)
 
-abbrev pub protocol_45 : Protocol → Lines
-protocol_45 p = over (λ (b : NamedBlock). at_line b.line (includes_itself p b)) (blocks_in p.format)
+abbrev pub unless : {A : Type 0} → Bool → A → List A → List A
+unless true x xs = xs
+unless false x xs = x ∷ xs
 
--- fault 45: a named block that includes itself, at once or through others
+-- the blocks that an include can mean: the first of each name, where those before have these names
+abbrev pub firsts : List Text → List NamedBlock → List NamedBlock
+firsts before [] = []
+firsts before (b ∷ bs) = unless (list_any (bytes_eq b.name) before) b (firsts (b.name ∷ before) bs)
+
+abbrev pub protocol_45 : Protocol → Lines
+protocol_45 p = over (λ (b : NamedBlock). at_line b.line (includes_itself p b)) (firsts [] (blocks_in p.format))
+
+-- fault 45: a named block that includes itself, at once or through others. A later block of the same name is never included
 unfoldable pub fault_45 : Database → Lines
 fault_45 db = over protocol_45 db.protocols
 
@@ -102,9 +120,9 @@ abbrev pub block_by : (Text → Within) → Option BlockAt → Within
 block_by include None n = true
 block_by include (Some b) n = one_within (within_in include b.body) n
 
--- an included block is counted where it is included, through at most so many includes
+-- an included block is counted where it is included, through at most so many includes; one that isn't declared nests nothing
 abbrev pub block_within : Protocol → ℕ → Text → Within
-block_within p zero name n = false
+block_within p zero name n = not (is_some (block_at p name))
 block_within p (suc f) name n = block_by (block_within p f) (block_at p name) n
 
 -- from the protocol's own lists, and from each named block, which counts itself

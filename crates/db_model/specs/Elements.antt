@@ -1,5 +1,5 @@
 -- What an element does: a run, given how many fields and blocks of the protocol stand before it.
-use Rattle.std.specs.Prelude.{ℕ, zero, suc, Bool, ◌&&◌, if◌then◌else◌, nat_le, List, [], ◌∷◌, ◌++◌, map, length, take, replicate, slice_get, slice_set, is_some, unwrap_or, Option, Some, None}
+use Rattle.std.specs.Prelude.{ℕ, zero, suc, Bool, true, ◌&&◌, if◌then◌else◌, nat_le, List, [], ◌∷◌, ◌++◌, map, length, replicate, slice_get, slice_set, is_some, unwrap_or, Option, Some, None}
 use Rattle.std.specs.List.{list_any}
 use Rattle.db_model.specs.declared.database.ColumnDecl.{ColumnDecl}
 use Rattle.db_model.specs.declared.database.Database.{Database}
@@ -22,9 +22,10 @@ use Rattle.db_model.specs.declared.field_kind.FieldKind.TheVariants.{Variable}
 use Rattle.db_model.specs.declared.limits.TheConstants.{MOST_NESTED}
 use Rattle.db_model.specs.declared.question.Question.TheVariants.{Add}
 use Rattle.db_model.specs.declared.question.Answer.{Answer}
+use Rattle.db_model.specs.declared.question.Answer.TheVariants.{Done}
 use Rattle.db_model.specs.declared.tree.Reason.TheVariants as reason
 use Rattle.db_model.specs.declared.value.Value.{Value}
-use Rattle.db_model.specs.Expression.{Eval, give, result, when, ◌>>=◌, val, num, buf, proto, is_so, keys_from, key_sizes, columns_of, asks}
+use Rattle.db_model.specs.Expression.{Eval, give, result, when, ◌>>=◌, val, num, buf, proto, fail, taken_as, is_so, keys_from, key_sizes, asks}
 use Rattle.db_model.specs.Extent.{kind_of}
 use Rattle.db_model.specs.Folds.{Noted, CaseOf, BranchOf, ElementOf, noted_element}
 use Rattle.db_model.specs.Names.{Text, variable_at, table_at}
@@ -34,26 +35,26 @@ use Rattle.db_model.specs.Runs.{Run, next, leave, go, evaluated, block, place_fi
 
 -- ---- updates
 
--- the masks of keys of which one has a mask: one that has none keeps all bits, and none is longer than its key
+-- the masks of keys of which one has a mask: one that has none keeps all bits
 abbrev pub filled : List ℕ → List (Option (List ℕ)) → List (List ℕ)
 filled [] ms = []
 filled (size ∷ sizes) [] = []
-filled (size ∷ sizes) (m ∷ ms) = take size (unwrap_or m (replicate size 255)) ∷ filled sizes ms
+filled (size ∷ sizes) (m ∷ ms) = unwrap_or m (replicate size 255) ∷ filled sizes ms
 
 -- masks, where one of the keys has one
 abbrev pub masks_of : List ℕ → List (Option (List ℕ)) → Option (List (List ℕ))
 masks_of sizes ms = if list_any is_some ms then Some (filled sizes ms) else None
 
--- a value is no longer than its column, and a column without a size has room for no bytes
+-- a value is no longer than its column, where the column has a size
 abbrev pub fits_column : Option ℕ → Value → Bool
-fits_column None v = nat_le (length (buf v)) 0
+fits_column None v = true
 fits_column (Some most) v = nat_le (length (buf v)) most
 
--- the values of a row, each checked for its size right after it is evaluated, behind those that are there
-abbrev pub row_from : List Value → List ColumnDecl → List (Eval Value) → Eval (List Value)
-row_from done [] ps = give done
-row_from done (c ∷ cs) [] = give done
-row_from done (c ∷ cs) (p ∷ ps) = p >>= (λ v. result (when (fits_column c.size v) reason.DataSize v) >>= (λ w. row_from (done ++ w ∷ []) cs ps))
+-- the values of a row, each taken as its column's type and checked for its size right after it is evaluated, behind those that are there. One that isn't there has no size
+abbrev pub row_from : ℕ → List Value → List ColumnDecl → List (Eval Value) → Eval (List Value)
+row_from protocols done [] ps = give done
+row_from protocols done (c ∷ cs) [] = fail reason.DataSize
+row_from protocols done (c ∷ cs) (p ∷ ps) = p >>= (λ v. result (when (fits_column c.size (taken_as protocols c.ty v)) reason.DataSize (taken_as protocols c.ty v)) >>= (λ w. row_from protocols (done ++ w ∷ []) cs ps))
 
 abbrev pub holds : {A : Type 0} → CaseOf A → ℕ → Bool
 holds c v = nat_le c.value v && nat_le v c.maxvalue
@@ -104,12 +105,13 @@ module _ (db : Database) (fields : List Text) where
   abbrev pub assign : Text → Expr → Run
   assign name e = evaluated (val db fields e) (set_variable (variable_at db name))
 
-  -- the keys, then the row, then one question
+  -- the keys, then the row, then one question. An update of a table that isn't declared does nothing
   abbrev pub added : Option TableDecl → ℕ → Validity → Option ℕ → Option ℕ → List UpdateKey → List UpdateValue → Eval Answer
-  added d n validity keep hit keys row =
-      keys_from [] (key_sizes d) (map (λ k. val db fields k.value) keys) >>= (λ ks.
-      row_from [] (columns_of d) (map (λ v. val db fields v.value) row) >>= (λ vs.
-      asks (Add n (record { keys = ks; masks = masks_of (key_sizes d) (map (λ k. k.mask) keys); validity = validity; keep = unwrap_or keep 0; hit = unwrap_or hit 0; row = vs }))))
+  added None n validity keep hit keys row = give Done
+  added (Some d) n validity keep hit keys row =
+      keys_from [] (key_sizes (Some d)) (map (λ k. val db fields k.value) keys) >>= (λ ks.
+      row_from (length db.protocols) [] d.columns (map (λ v. val db fields v.value) row) >>= (λ vs.
+      asks (Add n (record { keys = ks; masks = masks_of (key_sizes (Some d)) (map (λ k. k.mask) keys); validity = validity; keep = unwrap_or keep 0; hit = unwrap_or hit 0; row = vs }))))
 
   abbrev pub update : Text → Validity → Option ℕ → Option ℕ → List UpdateKey → List UpdateValue → Run
   update table validity keep hit keys row = evaluated (added (slice_get db.tables (table_at db table)) (table_at db table) validity keep hit keys row) (λ a. next)

@@ -14,6 +14,8 @@ use Rattle.db_model.specs.declared.question.Answer.{Answer}
 use Rattle.db_model.specs.declared.question.Answer.TheVariants.{Miss, Hit, Done}
 use Rattle.db_model.specs.declared.tree.Reason.{Reason}
 use Rattle.db_model.specs.declared.tree.Reason.TheVariants as reason
+use Rattle.db_model.specs.declared.value.Ty.{Ty}
+use Rattle.db_model.specs.declared.value.Ty.TheVariants as ty
 use Rattle.db_model.specs.declared.value.Value.{Value}
 use Rattle.db_model.specs.declared.value.Value.TheVariants.{Num, Buf, Proto}
 use Rattle.db_model.specs.declared.limits.TheConstants.{GREATEST_NUMBER, MOST_NUMBER_BYTES}
@@ -41,6 +43,15 @@ abbrev pub proto : Value → ℕ
 proto (Num n) = 0
 proto (Buf b) = 0
 proto (Proto p) = p
+
+abbrev pub declared_or_first : ℕ → ℕ → ℕ
+declared_or_first protocols p = if nat_lt p protocols then p else 0
+
+-- a value taken as one of a type: itself where it is of the type, and then a protocol that isn't one of the declared ones is the first
+abbrev pub taken_as : ℕ → Ty → Value → Value
+taken_as protocols ty.Num v = Num (num v)
+taken_as protocols ty.Buf v = Buf (buf v)
+taken_as protocols ty.Proto v = Proto (declared_or_first protocols (proto v))
 
 abbrev pub truth : Bool → Value
 truth true = Num 1
@@ -136,15 +147,15 @@ abbrev pub asks : Question → Eval Answer
 asks q = λ z. answer_at q z z.questions
 
 -- a hit is 1, and sets the row last hit of its table
-abbrev pub found : ℕ → Answer → Eval Value
-found table Miss = give (Num 0)
-found table (Hit row) = λ z. Gives (Ok (Num 1), record z { hits = slice_set z.hits table (Some row) })
-found table Done = give (Num 0)
+abbrev pub hit_as_number : ℕ → Answer → Eval Value
+hit_as_number table Miss = give (Num 0)
+hit_as_number table (Hit row) = λ z. Gives (Ok (Num 1), record z { hits = slice_set z.hits table (Some row) })
+hit_as_number table Done = give (Num 0)
 
--- the keys, each checked for its size right after it is evaluated, behind those that are there
+-- the keys, each checked for its size right after it is evaluated, behind those that are there. One that isn't there has no size
 abbrev pub keys_from : List (List ℕ) → List ℕ → List (Eval Value) → Eval (List (List ℕ))
 keys_from done [] ps = give done
-keys_from done (size ∷ sizes) [] = give done
+keys_from done (size ∷ sizes) [] = fail reason.KeySize
 keys_from done (size ∷ sizes) (p ∷ ps) = p >>= (λ v. result (when (length (buf v) == size) reason.KeySize (buf v)) >>= (λ k. keys_from (done ++ k ∷ []) sizes ps))
 
 abbrev pub key_sizes : Option TableDecl → List ℕ
@@ -174,6 +185,11 @@ special_value CurrentOffset z = Num z.at
 special_value ProtoOffset z = Num z.origin
 special_value LinkType z = Num z.packet.link
 
+-- the keys, then one question. A table that isn't declared has nothing to hit
+abbrev pub look_up : Option TableDecl → ℕ → Bool → List (Eval Value) → Eval Value
+look_up None n renew ks = give (Num 0)
+look_up (Some d) n renew ks = keys_from [] (key_sizes (Some d)) ks >>= (λ keys. asks (Look n keys renew) >>= hit_as_number n)
+
 module _ (db : Database) (fields : List Text) where
   abbrev pub variable_by : Option Special → Text → Eval Value
   variable_by None name = λ z. Gives (Ok (value_or_zero (slice_get z.vars (variable_at db name))), z)
@@ -197,7 +213,7 @@ module _ (db : Database) (fields : List Text) where
   value (layer.ToBytes a size) = a >>= (λ x. result (in_bytes size (num x)))
   value (layer.HasText b text) = b >>= (λ x. give (truth (occurs text (buf x))))
   value (layer.IsPresent name) = λ z. Gives (Ok (truth (is_present fields name z.present)), z)
-  value (layer.LookUp table renew ks) = keys_from [] (key_sizes (slice_get db.tables (table_at db table))) ks >>= (λ keys. asks (Look (table_at db table) keys renew) >>= found (table_at db table))
+  value (layer.LookUp table renew ks) = look_up (slice_get db.tables (table_at db table)) (table_at db table) renew ks
 
   -- what an expression gives
   unfoldable pub val : Expr → Eval Value

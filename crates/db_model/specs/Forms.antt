@@ -3,13 +3,17 @@ use Rattle.std.specs.Prelude.{ℕ, ◌+◌, max, Bool, true, ◌&&◌, nat_le, L
 use Rattle.std.specs.List.{list_all}
 use Rattle.db_model.specs.declared.expression.Expr.{Expr, Expr-F}
 use Rattle.db_model.specs.declared.expression.Expr.TheOpen as layer
-use Rattle.db_model.specs.declared.limits.TheConstants.{MOST_TEXT, MOST_EXPRESSION_NODES, MOST_EXPRESSION_DEPTH}
+use Rattle.db_model.specs.declared.limits.TheConstants.{GREATEST_NUMBER, MOST_TEXT, MOST_EXPRESSION_NODES, MOST_EXPRESSION_DEPTH}
 use Rattle.db_model.specs.Folds.{fold_expr}
 use Rattle.db_model.specs.Name.{is_name}
 use Rattle.db_model.specs.Names.{Text}
 
 abbrev pub is_between : ℕ → ℕ → ℕ → Bool
 is_between low high n = nat_le low n && nat_le n high
+
+-- a number is no greater than the greatest one
+abbrev pub is_number : ℕ → Bool
+is_number n = nat_le n GREATEST_NUMBER
 
 -- printable bytes, of which there are few enough
 abbrev pub is_text : Text → Bool
@@ -70,10 +74,13 @@ depth_step (layer.LookUp table renew ks) = 1 + deepest ks
 abbrev pub depth_of : Expr → ℕ
 depth_of = fold_expr ℕ depth_step
 
--- the names have their form
+abbrev pub is_byte : ℕ → Bool
+is_byte b = nat_le b 255
+
+-- the names have their form, numbers are not too great, and texts are of bytes
 abbrev pub form_step : Expr-F Bool → Bool
-form_step (layer.Number n) = true
-form_step (layer.Text b) = true
+form_step (layer.Number n) = nat_le n GREATEST_NUMBER
+form_step (layer.Text b) = list_all is_byte b
 form_step (layer.Protocol name) = is_name name
 form_step (layer.Field name) = is_name name
 form_step (layer.Variable name) = is_name name
@@ -85,8 +92,8 @@ form_step (layer.Binary o a b) = a && b
 form_step (layer.Slice a b c) = a && (b && c)
 form_step (layer.ToNumber a) = a
 form_step (layer.LengthOf a) = a
-form_step (layer.ToBytes a size) = a
-form_step (layer.HasText a text) = a
+form_step (layer.ToBytes a size) = a && nat_le size GREATEST_NUMBER
+form_step (layer.HasText a text) = a && list_all is_byte text
 form_step (layer.IsPresent name) = is_name name
 form_step (layer.LookUp table renew ks) = is_name table && list_all (λ b. b) ks
 

@@ -1,10 +1,12 @@
 pub mod Bare
 pub mod BlockFaults
+pub mod Bytes
 pub mod Chain
 pub mod Decoding
 pub mod Elements
 pub mod Expression
 pub mod Extent
+pub mod FieldNames
 pub mod Fitting
 pub mod Folds
 pub mod Forms
@@ -12,6 +14,7 @@ pub mod Kept
 pub mod Laws
 pub mod Lines
 pub mod Name
+pub mod NameIndex
 pub mod NameFaults
 pub mod Names
 pub mod NumberFaults
@@ -19,6 +22,7 @@ pub mod Numbering
 pub mod Numbers
 pub mod Objection
 pub mod Over
+pub mod Proper
 pub mod Questions
 pub mod Reason
 pub mod Replay
@@ -29,4 +33,5 @@ pub mod Shape
 pub mod Special
 pub mod Table
 pub mod TypeFaults
+pub mod Typed
 pub mod Typing

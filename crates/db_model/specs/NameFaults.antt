@@ -21,6 +21,7 @@ use Rattle.db_model.specs.Forms.{if_there}
 use Rattle.db_model.specs.Lines.{Lines, over, over_option, at_line, lines_in}
 use Rattle.db_model.specs.Names.{Text, startproto}
 use Rattle.db_model.specs.Numbering.{field_names, blocks_in}
+use Rattle.db_model.specs.Special.{special_names}
 use Rattle.db_model.specs.Typing.{is_among, is_table, is_protocol, has_undeclared}
 
 -- ---- declared before, in the same space
@@ -34,12 +35,9 @@ abbrev pub repeated : List Text → List Declared → Lines
 repeated names [] = []
 repeated names (d ∷ ds) = at_line d.1 (is_among d.0 names) ++ repeated (d.0 ∷ names) ds
 
--- the names that no protocol and no variable may have
-abbrev pub payload : Text
-payload = codes "payload"
-
-abbrev pub special_names : List Text
-special_names = codes "packet" ∷ codes "packetlength" ∷ codes "currentoffset" ∷ codes "protooffset" ∷ codes "linktype" ∷ []
+-- the name that no protocol may have
+abbrev pub payload_name : Text
+payload_name = codes "payload"
 
 -- the keys and the data of one table are one space
 abbrev pub repeated_in_table : TableDecl → Lines
@@ -54,7 +52,7 @@ repeated_sections s = repeated [] (map (λ d. (d.name, d.line)) s.sections)
 -- fault 40: a name that is declared before it in the same space, or may not be declared
 unfoldable pub fault_40 : Database → Lines
 fault_40 db =
-    repeated (payload ∷ []) (map (λ d. (d.name, d.line)) db.protocols)
+    repeated (payload_name ∷ []) (map (λ d. (d.name, d.line)) db.protocols)
     ++ (repeated special_names (map (λ d. (d.name, d.line)) db.variables)
     ++ (repeated [] (map (λ d. (d.name, d.line)) db.tables)
     ++ (over repeated_in_table db.tables

@@ -74,12 +74,12 @@ abbrev pub template_43 : ShowTemplate → Lines
 template_43 t = at_line t.line (group_is_outside t.show_type t.group)
 
 -- the line of the first declaration too many
-abbrev pub first_of : Lines → Lines
-first_of [] = []
-first_of (l ∷ ls) = l ∷ []
+abbrev pub first_line : Lines → Lines
+first_line [] = []
+first_line (l ∷ ls) = l ∷ []
 
 abbrev pub too_many : ℕ → Lines → Lines
-too_many most lines = first_of (drop most lines)
+too_many most lines = first_line (drop most lines)
 
 -- fault 43: a number that is out of its limits
 unfoldable pub fault_43 : Database → Lines

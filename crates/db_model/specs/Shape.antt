@@ -27,7 +27,7 @@ use Rattle.db_model.specs.declared.limits.TheConstants.{MOST_KEYS, MOST_COLUMNS,
 use Rattle.db_model.specs.declared.value.Ty.{Ty}
 use Rattle.db_model.specs.declared.value.Ty.TheVariants as ty
 use Rattle.db_model.specs.Folds.{CaseOf, BranchOf, ElementOf, fold_element}
-use Rattle.db_model.specs.Forms.{is_between, is_text, if_there, is_expression}
+use Rattle.db_model.specs.Forms.{is_between, is_number, is_text, if_there, is_expression}
 use Rattle.db_model.specs.Name.{is_name}
 
 -- the three kinds of list
@@ -85,7 +85,7 @@ stands_step (layer.LoopCtrl line c) kind looped = is_field_list kind && looped
 stands_step (layer.Switch line e cases other) kind looped = is_expression e && (cases_stand cases kind looped && branch_stands other kind looped)
 stands_step (layer.If line e true_line so other) kind looped = is_expression e && (all_stand so kind looped && branch_stands other kind looped)
 stands_step (layer.Assign line name e) kind looped = not (is_encap_list kind) && (is_name name && is_expression e)
-stands_step (layer.Update line table validity keep hit keys row) kind looped = not (is_encap_list kind) && (is_name table && (list_all key_is_shaped keys && list_all value_is_shaped row))
+stands_step (layer.Update line table validity keep hit keys row) kind looped = not (is_encap_list kind) && (is_name table && ((if_there is_number keep && if_there is_number hit) && (list_all key_is_shaped keys && list_all value_is_shaped row)))
 stands_step (layer.NextProto line e) kind looped = is_encap_list kind && is_expression e
 
 abbrev pub stands : Element → Stands

@@ -123,8 +123,8 @@ first_of None b = b
 first_of (Some e) b = Some e
 
 -- the exact entry with these keys, if it lives; else the first live masked entry that matches
-abbrev pub found : Parts → KeyList → ℕ → Option Entry
-found table keys t = first_of (if_live t (find (λ e. same_keys keys e.keys) table.exact)) (find (λ e. live e t && matches e keys) table.masked)
+abbrev pub matching_entry : Parts → KeyList → ℕ → Option Entry
+matching_entry table keys t = first_of (if_live t (find (λ e. same_keys keys e.keys) table.exact)) (find (λ e. live e t && matches e keys) table.masked)
 
 -- a hit that renews: an entry of the kind updateonhit gets a new deadline, and one of the kind addonhit puts an exact entry under the asked keys
 abbrev pub renewed_by : Validity → TableDecl → Parts → KeyList → ℕ → Entry → Parts
@@ -138,4 +138,4 @@ answered d table keys renew t None = (Miss, table)
 answered d table keys renew t (Some e) = (Hit e.row, if renew then renewed_by e.validity d table keys t e else table)
 
 unfoldable pub look : TableDecl → Parts → KeyList → Bool → ℕ → Answer × Parts
-look d table keys renew t = answered d table keys renew t (found table keys t)
+look d table keys renew t = answered d table keys renew t (matching_entry table keys t)

@@ -1,26 +1,51 @@
 ghost use Rattle.std.specs.Prelude.{◌≡◌, ◌≤◌, length, IfOk, vec_len};
 
 use crate::NoMemory;
-use std::alloc::Global;
+use arrayvec::ArrayVec;
+use std::alloc::{AllocError, Global};
 use std::marker::Model;
 
 /// The most bytes that a `Bytes` holds: as many as a record of a capture may have.
 pub const MOST_BYTES: usize = 262_144;
 
-/// At most `MOST_BYTES` bytes, seen as their list.
-#[derive(Clone, Debug, Drop)]
+/// The most bytes that a `Bytes` keeps in place.
+const MOST_SHORT: usize = 24;
+
+/// Few bytes lie in the value itself, more of them in memory of their own.
+#[derive(Drop)]
+enum Held {
+    Short(ArrayVec<u8, MOST_SHORT>),
+    Long(Vec<u8>),
+}
+
+/// At most `MOST_BYTES` bytes, seen as their list. A short value, of at most 24 bytes, takes no memory of its own.
+#[derive(Drop)]
 pub struct Bytes {
-    bytes: Vec<u8>,
+    held: Held,
 }
 
 impl Model for Bytes {
     ghost use Rattle.std.specs.Prelude.{List, ℕ, ◌≤◌, length};
+    ghost use Rattle.db_model.specs.Bytes.{bytes_held};
 
     ghost Value = { List ℕ };
 
-    ghost view = { λ b. b.bytes.items };
+    ghost view = { λ b. bytes_held b.held };
 
-    ghost invariant = { λ b. length b.bytes.items ≤ 262144 };
+    ghost invariant = { λ b. length (bytes_held b.held) ≤ 262144 };
+}
+
+impl Clone for Bytes {
+    ghost is_clone = { λ b copy. copy ≡ b };
+
+    fn clone(&self) -> Result<Bytes, AllocError> {
+        match &self.held {
+            Held::Short(bytes) => Ok(in_place(bytes.as_slice())),
+            Held::Long(bytes) => Ok(Bytes {
+                held: Held::Long(bytes.clone()?),
+            }),
+        }
+    }
 }
 
 impl PartialEq for Bytes {
@@ -33,7 +58,19 @@ impl PartialEq for Bytes {
     ghost laws = { Prim.search (comparing, rules) };
 
     fn eq(&self, other: &Bytes) -> bool {
-        self.bytes.as_slice() == other.bytes.as_slice()
+        self.as_slice() == other.as_slice()
+    }
+}
+
+fn in_place(bytes: &[u8]) -> Bytes
+    requires { length bytes.now ≤ MOST_SHORT }
+    ensures { result ≡ bytes.now }
+{
+    let mut short = ArrayVec::new();
+    // They fit, since there are at most `MOST_SHORT`.
+    let _ = short.try_extend_from_slice(bytes);
+    Bytes {
+        held: Held::Short(short),
     }
 }
 
@@ -43,28 +80,42 @@ impl Bytes {
         requires { vec_len bytes ≤ MOST_BYTES }
         ensures { result ≡ bytes.items }
     {
-        Bytes { bytes }
+        if bytes.len() <= MOST_SHORT {
+            in_place(bytes.as_slice())
+        } else {
+            Bytes {
+                held: Held::Long(bytes),
+            }
+        }
     }
 
+    /// Takes no memory for a short value.
     pub fn copy_of(alloc: Global, bytes: &[u8]) -> Result<Bytes, NoMemory>
         requires { length bytes.now ≤ MOST_BYTES }
         ensures { IfOk result (λ b. b ≡ bytes.now) }
     {
-        Ok(Bytes {
-            bytes: Vec::from_slice(alloc, bytes)?,
-        })
+        if bytes.len() <= MOST_SHORT {
+            Ok(in_place(bytes))
+        } else {
+            Ok(Bytes {
+                held: Held::Long(Vec::from_slice(alloc, bytes)?),
+            })
+        }
     }
 
     pub fn as_slice(&self) -> &[u8]
         ensures bytes { result.now ≡ self.now }
         ensures bound { length self.now ≤ MOST_BYTES }
     {
-        self.bytes.as_slice()
+        match &self.held {
+            Held::Short(bytes) => bytes.as_slice(),
+            Held::Long(bytes) => bytes.as_slice(),
+        }
     }
 }
 
 /// Bytes without a bound of their own, seen as their list.
-#[derive(Debug, Drop)]
+#[derive(Drop)]
 pub struct Bytes64 {
     bytes: Vec<u8>,
 }

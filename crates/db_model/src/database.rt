@@ -2,7 +2,7 @@ use crate::{Bytes, Element, Literal, Name, Ty};
 use sqlite_items::Items;
 
 /// How long the value of a variable lasts: it begins anew with each packet.
-#[derive(Clone, Copy, Debug, PartialEq, Eq)]
+#[derive(Clone, Copy, PartialEq, Eq)]
 pub enum VarValidity {
     Packet,
 }
@@ -44,7 +44,7 @@ pub struct TableDecl {
     pub columns: Items<ColumnDecl>,
 }
 
-#[derive(Clone, Copy, Debug, PartialEq, Eq)]
+#[derive(Clone, Copy, PartialEq, Eq)]
 pub enum ShowType {
     Hex,
     Dec,
@@ -78,7 +78,7 @@ pub struct SumStruct {
 }
 
 /// What of a packet's header a summary shows.
-#[derive(Clone, Copy, Debug, PartialEq, Eq)]
+#[derive(Clone, Copy, PartialEq, Eq)]
 pub enum HeaderPart {
     Num,
     Timestamp,

@@ -12,14 +12,14 @@ pub enum FieldForm {
     Padding { align: u32 },
 }
 
-#[derive(Clone, Copy, Debug, PartialEq, Eq)]
+#[derive(Clone, Copy, PartialEq, Eq)]
 pub enum LoopKind {
     Size,
     Count,
     While,
 }
 
-#[derive(Clone, Copy, Debug, PartialEq, Eq)]
+#[derive(Clone, Copy, PartialEq, Eq)]
 pub enum LoopControl {
     Break,
     Continue,

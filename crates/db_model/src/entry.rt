@@ -1,7 +1,7 @@
 use crate::{Keys, Row, Stamp};
 
 /// How long an entry of a table lives, and what a renewing hit on it does.
-#[derive(Clone, Copy, Debug, PartialEq, Eq)]
+#[derive(Clone, Copy, PartialEq, Eq)]
 pub enum Validity {
     /// It has no deadline.
     Forever,
@@ -14,7 +14,7 @@ pub enum Validity {
 }
 
 /// An entry as it is asked to be added. `keep` and `hit` are seconds.
-#[derive(Clone, Debug, Drop, PartialEq)]
+#[derive(Clone, Drop, PartialEq)]
 pub struct NewEntry {
     pub keys: Keys,
     pub masks: Option<Keys>,
@@ -25,7 +25,7 @@ pub struct NewEntry {
 }
 
 /// An entry of a table. Where it has masks, its keys are already masked.
-#[derive(Clone, Debug, Drop, PartialEq)]
+#[derive(Drop)]
 pub struct Entry {
     pub keys: Keys,
     pub masks: Option<Keys>,

@@ -14,7 +14,7 @@ pub type HitRows = Sequence<Option<Row>>;
 pub type FieldValues = Sequence<(u32, Bytes)>;
 
 /// The state of decoding that expressions see. Positions are in bytes from the packet's first byte.
-#[derive(Debug, Drop)]
+#[derive(Drop)]
 pub struct Env {
     pub packet: Packet,
     /// The position.
@@ -36,14 +36,13 @@ impl Env {
     pub fn start(alloc: Global, db: &CheckedDb, packet: &Packet) -> Result<Env, NoMemory>
         ensures { IfOk result (λ e. e ≡ start_env db.now packet.now) }
     {
-        let database = db.database();
         Ok(Env {
             packet: packet.clone()?,
             at: 0,
             limit: packet.bytes.as_slice().len() as u32,
             origin: 0,
-            vars: first_values(alloc, database)?,
-            hits: no_hits(alloc, database)?,
+            vars: first_values(alloc, db)?,
+            hits: no_hits(alloc, db.database())?,
             present: FieldValues::new(alloc),
             turns: MOST_TURNS,
             questions: MOST_QUESTIONS,
@@ -51,18 +50,17 @@ impl Env {
     }
 }
 
-fn first_values(alloc: Global, db: &Database) -> Result<Row, NoMemory>
-    requires { length db.now.protocols ≤ MOST_PROTOCOLS }
+fn first_values(alloc: Global, db: &CheckedDb) -> Result<Row, NoMemory>
     ensures { IfOk result (λ r. r ≡ map (λ v. literal db.now v.value) db.now.variables) }
 {
     let mut values = Row::new(alloc);
-    for v in db.variables.as_slice() {
+    for v in db.database().variables.as_slice() {
         values.push(first_value(db, &v.value)?)?;
     }
     Ok(values)
 }
 
-fn first_value(db: &Database, value: &Literal) -> Result<Value, NoMemory>
+fn first_value(db: &CheckedDb, value: &Literal) -> Result<Value, NoMemory>
     requires { length db.now.protocols ≤ MOST_PROTOCOLS }
     ensures { IfOk result (λ v. v ≡ literal db.now value.now) }
 {
@@ -84,7 +82,7 @@ fn no_hits(alloc: Global, db: &Database) -> Result<HitRows, NoMemory>
 }
 
 /// The state of decoding that elements see.
-#[derive(Debug, Drop)]
+#[derive(Drop)]
 pub struct Frame {
     pub env: Env,
     /// The nodes that are left.
@@ -92,7 +90,7 @@ pub struct Frame {
 }
 
 /// How a list of elements ends.
-#[derive(Clone, Copy, Debug, PartialEq, Eq)]
+#[derive(Clone, Copy, PartialEq, Eq)]
 pub enum Way {
     /// At its end.
     Next,

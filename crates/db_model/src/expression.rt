@@ -1,11 +1,11 @@
-ghost use Rattle.std.specs.Prelude.{◌≡◌};
-ghost use Rattle.db_model.specs.Special.{special};
+ghost use Rattle.std.specs.Prelude.{◌≡◌, map};
+ghost use Rattle.db_model.specs.Special.{meant_in, special};
 
 use crate::{Bytes, Name};
 use sqlite_items::{Boxed, Items};
 
 /// The operators that evaluate both sides.
-#[derive(Clone, Copy, Debug, PartialEq, Eq)]
+#[derive(Clone, Copy, PartialEq, Eq)]
 pub enum Operator {
     Add,
     Sub,
@@ -23,7 +23,7 @@ pub enum Operator {
 }
 
 /// The variables that are not declared and that nothing sets.
-#[derive(Clone, Copy, Debug, PartialEq, Eq)]
+#[derive(Clone, Copy, PartialEq, Eq)]
 pub enum Special {
     /// `$packet`, the captured bytes.
     Packet,
@@ -37,29 +37,37 @@ pub enum Special {
     LinkType,
 }
 
+const SPECIALS: [(&[u8], Special); 5] = [
+    (b"packet", Special::Packet),
+    (b"packetlength", Special::PacketLength),
+    (b"currentoffset", Special::CurrentOffset),
+    (b"protooffset", Special::ProtoOffset),
+    (b"linktype", Special::LinkType),
+];
+
+fn meant_in(mut table: &[(&[u8], Special)], name: &[u8]) -> Option<Special>
+    ensures { result ≡ meant_in (map (λ s. (s.0.now, s.1)) table.entry.now) name.now }
+{
+    while let [entry, rest @ ..] = table {
+        if name == entry.0 {
+            return Some(entry.1);
+        }
+        table = rest;
+    }
+    None
+}
+
 impl Special {
     /// Which special variable the name, without its `$`, is.
     pub fn of(name: &[u8]) -> Option<Special>
         ensures { result ≡ special name.now }
     {
-        if name == b"packet".as_slice() {
-            Some(Special::Packet)
-        } else if name == b"packetlength".as_slice() {
-            Some(Special::PacketLength)
-        } else if name == b"currentoffset".as_slice() {
-            Some(Special::CurrentOffset)
-        } else if name == b"protooffset".as_slice() {
-            Some(Special::ProtoOffset)
-        } else if name == b"linktype".as_slice() {
-            Some(Special::LinkType)
-        } else {
-            None
-        }
+        meant_in(&SPECIALS, name)
     }
 }
 
 /// An expression as it is written, parentheses aside.
-#[derive(Debug, Drop)]
+#[derive(Drop)]
 pub enum Expr {
     Number(u32),
     Text(Bytes),
@@ -109,7 +117,7 @@ pub enum Expr {
 }
 
 /// An expression that is one number, one text or one protocol.
-#[derive(Debug, Drop)]
+#[derive(Drop)]
 pub enum Literal {
     Number(u32),
     Text(Bytes),
@@ -117,7 +125,7 @@ pub enum Literal {
 }
 
 /// Why an expression has no type. A name that isn't declared comes first, then a wrong number of keys.
-#[derive(Clone, Copy, Debug, PartialEq, Eq)]
+#[derive(Clone, Copy, PartialEq, Eq)]
 pub enum TypeFault {
     /// It names something that isn't declared.
     Undeclared,

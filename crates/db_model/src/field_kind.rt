@@ -1,7 +1,7 @@
 use crate::Bytes;
 
 /// Where a field ends. Sizes are in bytes.
-#[derive(Debug, Drop)]
+#[derive(Drop)]
 pub enum FieldKind {
     Fixed(u32),
     Bit { size: u8, mask: u32 },
@@ -16,7 +16,7 @@ pub enum FieldKind {
 }
 
 /// The numbers from `low` to `high`, both included.
-#[derive(Clone, Copy, Debug, PartialEq, Eq)]
+#[derive(Clone, Copy, PartialEq, Eq)]
 pub struct CaseRange {
     pub low: u32,
     pub high: u32,

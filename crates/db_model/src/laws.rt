@@ -1,6 +1,6 @@
 //! The laws of the definitions, each the contract of a function that does nothing.
 
-ghost use Rattle.db_model.specs.Laws.{UnchangedDecoding, UnchangedComputation, DiffersNowhere, AgreesInParts, SessionOfDecoding, SerialFrom, SerialFront, IncludesEnd, PutKeeps, TableKeeps, FitsStay, CarriesState};
+ghost use Rattle.db_model.specs.Laws.{UnchangedDecoding, UnchangedComputation, DiffersNowhere, AgreesInParts, SessionOfDecoding, SerialFrom, SerialFront, IncludesEnd, CyclesFound, PutKeeps, TableKeeps, TableFits, TableOfQuestion, FitsStay, DeclaredFits, AsksProperly, ProperComputations, AfterFits, DecodingFits, SerialFits, TypedValues, StartFits, TakenAsItself, CarriesState};
 
 /// Where the log of a decoding agrees with another session, decoding from there gives the same tree and log.
 pub fn unchanged_decoding()
@@ -37,9 +37,15 @@ pub fn serial_front()
     ensures { SerialFront }
 {}
 
-/// In a checked database one more level of included blocks changes nothing.
+/// In a checked database a name means the block of that name, at whatever depth it is included: the levels that
+/// there are never end, and more of them change nothing.
 pub fn includes_end()
     ensures { IncludesEnd }
+{}
+
+/// Fault 45 stands exactly where a named block leads back to itself, through however many others.
+pub fn cycles_found()
+    ensures { CyclesFound }
 {}
 
 /// Putting entries keeps their keys and masks apart, and the declared lengths.
@@ -52,9 +58,64 @@ pub fn table_keeps()
     ensures { TableKeeps }
 {}
 
+/// What a table holds goes on to fit its declaration, and so does the row of a hit.
+pub fn table_fits()
+    ensures { TableFits }
+{}
+
+/// What fits a database fits the table that is asked.
+pub fn table_of_question()
+    ensures { TableOfQuestion }
+{}
+
 /// A question that fits leaves a session that fits, and the row of its hit fits.
 pub fn fits_stay()
     ensures { FitsStay }
+{}
+
+/// The session of a database to which nothing was added fits.
+pub fn declared_fits()
+    ensures { DeclaredFits }
+{}
+
+/// In a checked database each question that a decoding asks fits, and there are at most as many as a packet may ask.
+pub fn asks_properly()
+    ensures { AsksProperly }
+{}
+
+/// How computations that ask properly are put together, and what they give over a session.
+pub fn proper_computations<S, A, B>()
+    ensures { ProperComputations S A B }
+{}
+
+/// A log of questions that fit leaves a session that fits.
+pub fn after_fits()
+    ensures { AfterFits }
+{}
+
+/// A decoding asks questions that fit, and at most as many as it may, and leaves a session that fits.
+pub fn decoding_fits()
+    ensures { DecodingFits }
+{}
+
+/// The same of packets decoded one by one.
+pub fn serial_fits()
+    ensures { SerialFits }
+{}
+
+/// The value of a typed expression has its type.
+pub fn typed_values()
+    ensures { TypedValues }
+{}
+
+/// The state with which a decoding begins fits a checked database.
+pub fn start_fits()
+    ensures { StartFits }
+{}
+
+/// A value that has a type is itself where it is taken as one of that type.
+pub fn taken_as_itself()
+    ensures { TakenAsItself }
 {}
 
 /// Leaving questions open says the same as carrying session and log through the state.

@@ -2,7 +2,8 @@
 //! expressions, elements and the chain of protocols do, the tree of a packet, and what a log says when it is
 //! asked again. Every layer's contracts are stated against these definitions (`specs/`). Contracts see each
 //! type as plain data (a list, a number or a record), so two values are equal where what they show is equal.
-//! `CheckedDb` is a database without any of the eight faults; `laws` has the theorems about the definitions.
+//! `CheckedDb` is a database whose elements stand where they may, without any of the eight faults; `laws` has the
+//! theorems about the definitions.
 #![tactic(auto)]
 
 mod bytes;
@@ -14,12 +15,15 @@ mod entry;
 mod env;
 mod expression;
 mod field_kind;
+mod field_names;
 pub mod laws;
 mod limits;
+mod name_index;
 mod names;
 mod naming;
 mod no_memory;
 mod packet;
+mod places;
 mod question;
 mod sequence;
 mod table;
@@ -73,6 +77,8 @@ pub use expression::Special;
 pub use expression::TypeFault;
 pub use field_kind::CaseRange;
 pub use field_kind::FieldKind;
+pub use field_names::FieldNames;
+pub use limits::DEADLINE_END;
 pub use limits::GREATEST_NUMBER;
 pub use limits::LEAST_ALIGNMENT;
 pub use limits::MOST_ALIGNMENT;
@@ -107,16 +113,20 @@ pub use limits::MOST_VARIABLES;
 pub use limits::PAYLOAD;
 pub use limits::SECOND;
 pub use limits::STAMP_END;
+pub use name_index::NameIndex;
 pub use names::MOST_NAME;
 pub use names::Name;
 pub use names::Word;
+pub use naming::ReservedWord;
 pub use naming::begins_name;
 pub use naming::continues_name;
 pub use naming::is_name;
 pub use naming::is_reserved;
+pub use naming::reserved;
 pub use no_memory::NoMemory;
 pub use packet::Packet;
 pub use packet::Stamp;
+pub use places::Places;
 pub use question::Answer;
 pub use question::Answers;
 pub use question::Question;
@@ -131,6 +141,3 @@ pub use value::Keys;
 pub use value::Row;
 pub use value::Ty;
 pub use value::Value;
-
-#[cfg(test)]
-mod tests;

@@ -3,6 +3,10 @@
 /// The first moment that is too late to be a stamp, in nanoseconds: 4.3 * 10^18.
 pub const STAMP_END: u64 = 4_300_000_000_000_000_000;
 
+/// The first moment that is too late to be a deadline, in nanoseconds: 9 * 10^18. A stamp and the greatest
+/// number of seconds come before it.
+pub const DEADLINE_END: u64 = 9_000_000_000_000_000_000;
+
 /// Nanoseconds of one second.
 pub const SECOND: u64 = 1_000_000_000;
 

@@ -8,7 +8,7 @@ use std::marker::Model;
 pub const MOST_NAME: usize = 64;
 
 /// A declared name: 1 to `MOST_NAME` bytes, seen as their list.
-#[derive(Debug, Drop)]
+#[derive(Drop)]
 pub struct Name {
     text: Vec<u8>,
 }
@@ -44,7 +44,7 @@ impl Name {
 }
 
 /// One word of a command line, kept as its own text and seen as its bytes.
-#[derive(Debug, Drop)]
+#[derive(Drop)]
 pub struct Word {
     text: String,
 }

@@ -4,42 +4,104 @@ ghost use Rattle.db_model.specs.Name;
 
 use crate::MOST_NAME;
 
-/// Whether a text is one of the operators that are words.
-#[tactic(auto, unfolding(crate::specs::Name::is_operator_word))]
-fn is_operator_word(text: &[u8]) -> bool
-    ensures { result ≡ Name.is_operator_word text.now }
-{
-    text == b"or".as_slice()
-        || text == b"and".as_slice()
-        || text == b"not".as_slice()
-        || text == b"lt".as_slice()
-        || text == b"le".as_slice()
-        || text == b"gt".as_slice()
-        || text == b"ge".as_slice()
-        || text == b"mod".as_slice()
-        || text == b"bitwand".as_slice()
-        || text == b"bitwor".as_slice()
+/// The reserved words of the expression language, which no name may be: the operators and then the functions.
+#[derive(Clone, Copy)]
+pub enum ReservedWord {
+    Or,
+    And,
+    Not,
+    Lt,
+    Le,
+    Gt,
+    Ge,
+    Mod,
+    BitAnd,
+    BitOr,
+    ToNumber,
+    LengthOf,
+    ToBytes,
+    HasText,
+    IsPresent,
+    LookUp,
+    RenewingLookUp,
 }
 
-/// Whether a text is the name of a function.
-#[tactic(auto, unfolding(crate::specs::Name::is_function_word))]
-fn is_function_word(text: &[u8]) -> bool
-    ensures { result ≡ Name.is_function_word text.now }
-{
-    text == b"buf2int".as_slice()
-        || text == b"buflen".as_slice()
-        || text == b"int2buf".as_slice()
-        || text == b"hasstring".as_slice()
-        || text == b"ispresent".as_slice()
-        || text == b"checklookuptable".as_slice()
-        || text == b"checkupdatelookuptable".as_slice()
+impl ReservedWord {
+    /// How it is written.
+    #[tactic(auto, unfolding(crate::specs::Name::spelling))]
+    pub fn spelling(self) -> &'static [u8]
+        ensures { result.now ≡ Name.spelling self }
+    {
+        match self {
+            ReservedWord::Or => b"or",
+            ReservedWord::And => b"and",
+            ReservedWord::Not => b"not",
+            ReservedWord::Lt => b"lt",
+            ReservedWord::Le => b"le",
+            ReservedWord::Gt => b"gt",
+            ReservedWord::Ge => b"ge",
+            ReservedWord::Mod => b"mod",
+            ReservedWord::BitAnd => b"bitwand",
+            ReservedWord::BitOr => b"bitwor",
+            ReservedWord::ToNumber => b"buf2int",
+            ReservedWord::LengthOf => b"buflen",
+            ReservedWord::ToBytes => b"int2buf",
+            ReservedWord::HasText => b"hasstring",
+            ReservedWord::IsPresent => b"ispresent",
+            ReservedWord::LookUp => b"checklookuptable",
+            ReservedWord::RenewingLookUp => b"checkupdatelookuptable",
+        }
+    }
 }
 
-/// Whether a text is a reserved word of the expression language, which no name may be.
+fn among(words: &[ReservedWord], text: &[u8]) -> Option<ReservedWord>
+    ensures { result ≡ Name.among words.now text.now }
+{
+    for word in words {
+        if text == word.spelling() {
+            return Some(*word);
+        }
+    }
+    None
+}
+
+/// The reserved word that a text is.
+#[tactic(auto, unfolding(crate::specs::Name::reserved))]
+pub fn reserved(text: &[u8]) -> Option<ReservedWord>
+    ensures { result ≡ Name.reserved text.now }
+{
+    among(
+        &[
+            ReservedWord::Or,
+            ReservedWord::And,
+            ReservedWord::Not,
+            ReservedWord::Lt,
+            ReservedWord::Le,
+            ReservedWord::Gt,
+            ReservedWord::Ge,
+            ReservedWord::Mod,
+            ReservedWord::BitAnd,
+            ReservedWord::BitOr,
+            ReservedWord::ToNumber,
+            ReservedWord::LengthOf,
+            ReservedWord::ToBytes,
+            ReservedWord::HasText,
+            ReservedWord::IsPresent,
+            ReservedWord::LookUp,
+            ReservedWord::RenewingLookUp,
+        ],
+        text,
+    )
+}
+
+/// Whether a text is a reserved word.
 pub fn is_reserved(text: &[u8]) -> bool
     ensures { result ≡ Name.is_reserved text.now }
 {
-    is_operator_word(text) || is_function_word(text)
+    match reserved(text) {
+        None => false,
+        Some(_) => true,
+    }
 }
 
 /// Whether a name may begin with a byte.

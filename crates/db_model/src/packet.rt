@@ -5,7 +5,7 @@ use crate::Bytes;
 pub type Stamp = u64;
 
 /// One captured packet.
-#[derive(Clone, Debug, Drop)]
+#[derive(Clone, Drop)]
 pub struct Packet {
     /// Its place in the capture, from 0.
     pub number: u64,

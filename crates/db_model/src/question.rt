@@ -1,5 +1,5 @@
 ghost use Rattle.std.specs.Prelude.{◌≡◌, ◌<◌, Option, true};
-ghost use Rattle.db_model.specs.Fitting.{has_room};
+ghost use Rattle.db_model.specs.Fitting.{question_fits};
 ghost use Rattle.db_model.specs.Over.{AnswersTo};
 ghost use Rattle.db_model.specs.Questions.{Log};
 ghost use Rattle.db_model.specs.Session.{Session};
@@ -8,14 +8,14 @@ ghost use Rattle.db_model.specs.declared.database.Database.{Database};
 use crate::{Keys, NewEntry, NoMemory, Row, STAMP_END, Stamp};
 
 /// What a decoding asks of a session. Tables are numbered in the order of declaration, from 0.
-#[derive(Clone, Debug, Drop, PartialEq)]
+#[derive(Clone, Drop, PartialEq)]
 pub enum Question {
     Look { table: u8, keys: Keys, renew: bool },
     Add { table: u8, entry: NewEntry },
 }
 
 /// What a session answers: a look-up is a miss or a hit with a row, an addition is done.
-#[derive(Clone, Debug, Drop, PartialEq)]
+#[derive(Clone, Drop, PartialEq)]
 pub enum Answer {
     Miss,
     Hit(Row),
@@ -31,10 +31,10 @@ pub trait Answers {
 
     ghost told: { Self → Option Log };
 
-    /// Answers a question as the content does at the moment `t`. Its keys, masks and row are no more and no
-    /// longer than declared. A refusal of memory changes nothing.
+    /// Answers a question that fits the database as the content does at the moment `t`. A refusal of memory
+    /// changes nothing.
     fn ask(&mut self, question: &Question, t: Stamp) -> Result<Answer, NoMemory>
-        requires room { has_room (database self.old) question.now ≡ true }
+        requires fits { question_fits (database self.old) question.now ≡ true }
         requires time { t < STAMP_END }
         ensures database { database self.new ≡ database self.old }
         ensures answer { AnswersTo (database self.old) t question.now result (content self.old) (told self.old) (content self.new) (told self.new) };

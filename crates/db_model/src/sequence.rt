@@ -6,7 +6,7 @@ use std::alloc::Global;
 use std::marker::Model;
 
 /// A `Vec` that contracts see as the list of its elements, and that can be copied and compared.
-#[derive(Clone, Debug, Drop)]
+#[derive(Clone, Drop)]
 pub struct Sequence<T> {
     items: Vec<T>,
 }

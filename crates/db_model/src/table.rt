@@ -1,5 +1,5 @@
 ghost use Rattle.std.specs.Prelude.{◌≡◌, ℕ, ◌+◌, ◌<◌, ◌≤◌, OnOk, OnErr, Some, true};
-ghost use Rattle.db_model.specs.Fitting.{look_has_room, add_has_room};
+ghost use Rattle.db_model.specs.Fitting.{look_fits, add_fits};
 ghost use Rattle.db_model.specs.Table.{Parts, look, add};
 ghost use Rattle.db_model.specs.declared.database.TableDecl.{TableDecl};
 
@@ -21,22 +21,22 @@ pub trait Table {
         ensures room { OnOk result ((n ≤ spare self.new) × (spare self.old ≤ spare self.new)) }
         ensures refused { OnErr result (spare self.new ≡ spare self.old) };
 
-    /// Looks for the keys at the moment `t`, and renews what it hits where `renew` says so. The keys are no more
-    /// and no longer than declared. Takes no memory.
+    /// Looks for the keys at the moment `t`, and renews what it hits where `renew` says so. The keys have the
+    /// declared number and sizes. Takes no memory.
     fn look(&mut self, keys: &Keys, renew: bool, t: Stamp) -> Answer
         requires room { 0 < spare self.old }
-        requires keys { look_has_room (Some (declaration self.old)) keys.now ≡ true }
+        requires keys { look_fits (declaration self.old) keys.now ≡ true }
         requires time { t < STAMP_END }
         ensures declaration { declaration self.new ≡ declaration self.old }
         ensures answer { result ≡ (look (declaration self.old) (content self.old) keys.now renew t).0 }
         ensures content { content self.new ≡ (look (declaration self.old) (content self.old) keys.now renew t).1 }
         ensures spare { spare self.old ≤ spare self.new + 1 };
 
-    /// Adds an entry at the moment `t`. Its keys, masks and row are no more and no longer than declared. Takes
-    /// no memory.
+    /// Adds an entry at the moment `t`. Its keys and masks have the declared number and sizes, its row the
+    /// declared types and at most the declared sizes. Takes no memory.
     fn add(&mut self, entry: &NewEntry, t: Stamp)
         requires room { 0 < spare self.old }
-        requires entry { add_has_room (Some (declaration self.old)) entry.now ≡ true }
+        requires entry { add_fits (declaration self.old) entry.now ≡ true }
         requires time { t < STAMP_END }
         ensures declaration { declaration self.new ≡ declaration self.old }
         ensures content { content self.new ≡ add (declaration self.old) (content self.old) entry.now t }

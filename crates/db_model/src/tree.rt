@@ -52,7 +52,7 @@ pub type PacketTree = Items<Proto>;
 pub type Nodes = Items<Node>;
 
 /// One decoded protocol. Positions and sizes are in bytes, positions from the packet's first byte.
-#[derive(Debug, Drop)]
+#[derive(Drop)]
 pub struct Proto {
     /// The protocol's number in its database, or 65,535 for the payload.
     pub number: u16,
@@ -63,7 +63,7 @@ pub struct Proto {
 
 /// A part of a decoded protocol. `field` and `block` count the field and block elements of the protocol
 /// in the order of its text, from 0.
-#[derive(Debug, Drop)]
+#[derive(Drop)]
 pub enum Node {
     Field {
         field: u32,

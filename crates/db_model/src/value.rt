@@ -1,7 +1,7 @@
 use crate::{Bytes, Sequence};
 
 /// The type of a value.
-#[derive(Clone, Copy, Debug, PartialEq, Eq)]
+#[derive(Clone, Copy, PartialEq, Eq)]
 pub enum Ty {
     Num,
     Buf,
@@ -9,7 +9,7 @@ pub enum Ty {
 }
 
 /// What an expression gives: a number, some bytes, or a protocol by its number.
-#[derive(Clone, Debug, Drop, PartialEq)]
+#[derive(Clone, Drop, PartialEq)]
 pub enum Value {
     Num(u32),
     Buf(Bytes),

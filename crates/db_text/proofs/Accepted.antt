@@ -1,26 +1,22 @@
 -- What the machine accepts, the grammar reads: whatever is open was read from the bytes so far.
-use Rattle.std.proofs.Common.{◌≡◌, ◌≢◌, ◌<◌, ◌≤◌, ◌==◌, ◌&&◌, ◌||◌, nat_le, if◌then◌else◌, ℕ, zero, suc, Bool, true, false, List, [], ◌∷◌, ◌++◌, length, take, codes, Option, Some, None, refl, sym, ap, subst, ◌∙◌, arith, append_assoc, append-nil}
+use Rattle.std.proofs.Common.{◌≡◌, ◌≢◌, ◌<◌, ◌≤◌, ◌==◌, ◌&&◌, if◌then◌else◌, ℕ, zero, suc, Bool, true, false, List, [], ◌∷◌, ◌++◌, length, take, codes, Option, Some, None, refl, sym, ap, subst, ◌∙◌, arith, append-nil}
 use Rattle.std.specs.List.{list_all, slice_get}
 use Rattle.std.proofs.lemmas.Bool.{eqb-false}
 use Rattle.std.proofs.lemmas.Option.{slice_get_within}
-use Rattle.db_text.specs.declared.mode.Act.TheVariants as act
-use Rattle.db_text.specs.declared.mode.Entity.{Entity}
-use Rattle.db_text.specs.declared.mode.Entity.TheVariants as entities
 use Rattle.db_text.specs.declared.mode.Fixed.{Fixed}
 use Rattle.db_text.specs.declared.mode.Fixed.TheVariants as fixed
 use Rattle.db_text.specs.declared.mode.Mode.{Mode}
 use Rattle.db_text.specs.declared.mode.Mode.TheVariants as mode
 use Rattle.db_text.specs.declared.mode.Move.{Move}
-use Rattle.db_text.specs.declared.node.Attribute.{Attribute}
 use Rattle.db_text.specs.declared.node.Node.{Node}
 use Rattle.db_text.specs.declared.notes.Notes.{Notes}
 use Rattle.db_text.specs.declared.frame.Frame.{Frame}
 use Rattle.db_text.specs.declared.parts.Parts.{Parts}
-use Rattle.db_text.specs.Text.{Placed, is_space, is_letter, is_name_byte, is_name, is_declared, begins_with, has_double, Quote, double, single, is_char, as_space, entity_text, character}
+use Rattle.db_text.specs.Text.{Placed, is_space, is_letter, is_name_byte, is_name, is_declared, has_double, Quote, double, single, is_char}
 use Rattle.db_text.specs.Tree.{attribute_of, element_of}
-use Rattle.db_text.specs.Grammar.{Stands, Spaces, no_space, space, Gap, gap, Mark, no_mark, mark, Declaration, no_declaration, declaration, Comment, comment, Misc, no_misc, misc_space, misc_comment, Chars, no_char, char, entity, OneAttribute, one_attribute, Attributes, no_attribute, attribute, Opening, opening, Element, empty, nested, Content, no_content, content_space, content_comment, content_element, Document, document}
-use Rattle.db_text.specs.Machine.{Stack, notes, frame, parts, State, state, at, start, doing, go, when, place_in, front, begin, between, opens, closes, not_letter, less, fixed_text, behind, fixed_next, in_declaration, in_comment, tag, in_name, in_tag, before_equals, in_attribute_name, after_equals, in_value, ampersand, ampersand_a, slash, ending, closing_next, decide, is_empty, popped, top_of, put, attributed, moved, step, fed}
-use Rattle.db_text.proofs.ByteTests.{both, conj, no, same, or_false, take_push, take_whole, take_past, name_push, declared_push, quiet_push, free_of_quiet}
+use Rattle.db_text.specs.Grammar.{Stands, Spaces, no_space, space, Gap, gap, Mark, no_mark, mark, Declaration, no_declaration, declaration, Comment, comment, Misc, no_misc, misc_space, misc_comment, Chars, no_char, char, entity, one_attribute, Attributes, no_attribute, attribute, Opening, opening, Element, empty, nested, Content, no_content, content_space, content_comment, content_element, Document, document}
+use Rattle.db_text.specs.Machine.{Stack, notes, parts, State, state, at, start, go, when, place_in, front, begin, between, opens, closes, less, fixed_text, behind, fixed_next, in_declaration, in_comment, tag, in_name, in_tag, before_equals, in_attribute_name, after_equals, in_value, ampersand, ampersand_a, slash, ending, closing_next, decide, is_empty, top_of, put, attributed, moved, step, fed}
+use Rattle.db_text.proofs.ByteTests.{both, conj, no, same, take_push, take_whole, take_past, name_push, declared_push, quiet_push, free_of_quiet}
 
 -- ---- bytes that stand behind others
 

@@ -1,7 +1,7 @@
 -- The first element that stands too deep.
 use Rattle.std.proofs.Common.{◌≡◌, ℕ, suc, List, [], ◌∷◌, ◌++◌, Option, Some, None, refl, sym, ap, ◌∙◌, map}
 use Rattle.db_text.specs.declared.node.Attribute.{Attribute}
-use Rattle.db_text.specs.declared.node.Node.{Node, Node-F, roll-Node, fold-Node}
+use Rattle.db_text.specs.declared.node.Node.{Node}
 use Rattle.db_text.specs.declared.node.Node.TheFolds.{fold-roll-Node}
 use Rattle.db_text.specs.Machine.{if_deep}
 use Rattle.db_text.specs.Tree.{element_of, earlier, first_in, too_deep_step, too_deep, any_too_deep}

@@ -1,21 +1,18 @@
 -- Each state that the machine comes to can be ended, so the bytes that it has taken go on to a text.
-use Rattle.std.proofs.Common.{◌≡◌, ◌≢◌, ◌<◌, ◌≤◌, ◌==◌, if◌then◌else◌, ℕ, zero, suc, Bool, true, false, List, [], ◌∷◌, ◌++◌, length, take, drop, codes, Option, Some, None, refl, sym, ap, subst, ◌∙◌, arith, append_assoc}
+use Rattle.std.proofs.Common.{◌≡◌, ◌≢◌, ◌<◌, ◌≤◌, ◌==◌, if◌then◌else◌, ℕ, zero, suc, Bool, true, false, List, [], ◌∷◌, ◌++◌, length, take, drop, Option, refl, sym, ap, subst, ◌∙◌, arith, append_assoc}
 use Rattle.std.specs.List.{slice_get}
 use Rattle.std.proofs.lemmas.Bool.{eq-eqb, ne_eqb}
 use Rattle.std.proofs.lemmas.List.{length-append, length-take-le, take-append-drop}
-use Rattle.db_text.specs.declared.mode.Act.TheVariants as act
 use Rattle.db_text.specs.declared.mode.Entity.TheVariants as entities
 use Rattle.db_text.specs.declared.mode.Fixed.{Fixed}
 use Rattle.db_text.specs.declared.mode.Fixed.TheVariants as fixed
 use Rattle.db_text.specs.declared.mode.Mode.{Mode}
 use Rattle.db_text.specs.declared.mode.Mode.TheVariants as mode
-use Rattle.db_text.specs.declared.mode.Move.{Move}
 use Rattle.db_text.specs.declared.notes.Notes.{Notes}
 use Rattle.db_text.specs.declared.parts.Parts.{Parts}
-use Rattle.db_text.specs.Text.{Placed, place, next_line, placed, line_behind, Quote, double, single, character}
-use Rattle.db_text.specs.Tree.{element_of}
+use Rattle.db_text.specs.Text.{Placed, place, next_line, placed, line_behind, Quote, double, single}
 use Rattle.db_text.specs.Grammar.{Stands}
-use Rattle.db_text.specs.Machine.{Stack, notes, parts, State, at, doing, go, when, fixed_text, behind, fixed_next, closing_next, is_empty, popped, top_of, put, closed, moved, fed}
+use Rattle.db_text.specs.Machine.{Stack, notes, State, at, go, when, fixed_text, behind, fixed_next, is_empty, popped, top_of, closed, moved, fed}
 use Rattle.db_text.proofs.ByteTests.{itself, at_seam, length_push}
 use Rattle.db_text.proofs.Followed.{byte_by, closing_on, closed_next}
 use Rattle.db_text.proofs.Accepted.{In, BeforeFixed, ClosingOf}

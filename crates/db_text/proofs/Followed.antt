@@ -1,5 +1,5 @@
 -- What the grammar reads, the machine follows.
-use Rattle.std.proofs.Common.{◌≡◌, ◌==◌, ◌&&◌, ◌||◌, nat_le, if◌then◌else◌, ℕ, suc, Bool, true, false, not, List, [], ◌∷◌, ◌++◌, length, codes, Option, Some, None, refl, sym, ap, subst, ◌∙◌, arith, append_assoc, append-nil, map}
+use Rattle.std.proofs.Common.{◌≡◌, ◌==◌, ◌&&◌, if◌then◌else◌, ℕ, suc, Bool, true, false, List, [], ◌∷◌, ◌++◌, length, codes, Option, Some, None, refl, sym, ap, subst, ◌∙◌, arith, append_assoc, append-nil}
 use Rattle.std.specs.List.{list_all, slice_get}
 use Rattle.std.proofs.lemmas.Option.{slice_get_past}
 use Rattle.db_text.specs.declared.mode.Act.TheVariants as act
@@ -14,11 +14,11 @@ use Rattle.db_text.specs.declared.node.Node.{Node}
 use Rattle.db_text.specs.declared.notes.Notes.{Notes}
 use Rattle.db_text.specs.declared.frame.Frame.{Frame}
 use Rattle.db_text.specs.declared.parts.Parts.{Parts}
-use Rattle.db_text.specs.Text.{Placed, is_space, is_letter, is_name_byte, is_name, is_declared, begins_with, has_double, Quote, double, single, is_char, as_space, entity_text, character}
-use Rattle.db_text.specs.Tree.{attribute_of, element_of, earlier, too_deep, any_too_deep}
-use Rattle.db_text.specs.Grammar.{Stands, Spaces, no_space, space, Gap, gap, Mark, no_mark, mark, Declaration, no_declaration, declaration, Comment, comment, Misc, no_misc, misc_space, misc_comment, Chars, no_char, char, entity, OneAttribute, one_attribute, Attributes, no_attribute, attribute, Opening, opening, Element, empty, nested, Content, no_content, content_space, content_comment, content_element, Document, document}
-use Rattle.db_text.specs.Machine.{Stack, notes, frame, parts, at, no_notes, no_parts, start, doing, go, when, place_in, opens, tag, in_name, before_equals, in_attribute_name, closing_next, decide, is_empty, if_deep, put, moved, fed, State, in_comment, in_tag, after_equals, ending, not_letter}
-use Rattle.db_text.proofs.ByteTests.{both, same, itself, space_no_name, space_no_letter, length_push, at_seam, or_false}
+use Rattle.db_text.specs.Text.{Placed, is_space, is_letter, is_name_byte, is_declared, begins_with, has_double, Quote, double, single, as_space, entity_text, character}
+use Rattle.db_text.specs.Tree.{element_of, earlier, too_deep, any_too_deep}
+use Rattle.db_text.specs.Grammar.{Stands, Spaces, no_space, space, Gap, gap, no_mark, mark, Declaration, no_declaration, declaration, Comment, comment, Misc, no_misc, misc_space, misc_comment, Chars, no_char, char, entity, OneAttribute, one_attribute, Attributes, no_attribute, attribute, Opening, opening, Element, empty, nested, Content, no_content, content_space, content_comment, content_element, Document, document}
+use Rattle.db_text.specs.Machine.{Stack, notes, frame, parts, at, no_notes, no_parts, start, doing, go, when, place_in, opens, tag, before_equals, closing_next, decide, is_empty, if_deep, put, moved, fed, State, in_comment, in_tag, after_equals, ending, not_letter}
+use Rattle.db_text.proofs.ByteTests.{both, itself, space_no_name, space_no_letter, length_push, at_seam, or_false}
 use Rattle.db_text.proofs.Depth.{earlier_assoc, earlier_none, any_too_deep-push, too_deep-element}
 
 -- ---- one byte

@@ -1,6 +1,7 @@
 pub mod Accepted
 pub mod ByteTests
 pub mod Depth
+pub mod Examples
 pub mod Finishes
 pub mod Followed
 pub mod Outcomes

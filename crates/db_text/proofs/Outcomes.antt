@@ -1,9 +1,8 @@
 -- The machine's outcome is the answer that the grammar gives, and each answer excludes every other.
-use Rattle.std.proofs.Common.{◌≡◌, ◌≢◌, ◌<◌, ◌≤◌, ◌+◌, ◌-◌, ◌==◌, ◌&&◌, if◌then◌else◌, ℕ, suc, Bool, true, false, List, [], ◌∷◌, ◌++◌, length, take, drop, Option, Some, None, Result, Ok, Err, ◌⊎◌, inl, inr, refl, sym, ap, subst, ◌∙◌, arith, append_assoc, append-nil}
+use Rattle.std.proofs.Common.{◌≡◌, ◌≢◌, ◌<◌, ◌≤◌, ◌+◌, ◌-◌, ◌==◌, if◌then◌else◌, ℕ, suc, Bool, true, false, List, [], ◌∷◌, ◌++◌, length, take, Option, Some, None, Ok, Err, ◌⊎◌, inl, inr, refl, sym, ap, subst, ◌∙◌, arith, append_assoc, append-nil}
 use Rattle.std.proofs.lemmas.Bool.{eq-eqb, ne_eqb, cases_lt}
-use Rattle.std.proofs.lemmas.List.{length-append, length-take-le, take-append-drop, take_all}
+use Rattle.std.proofs.lemmas.List.{length-append}
 use Rattle.std.proofs.Math.Seq.{take-append_seam, take-append-add, take-length}
-use Rattle.std.specs.Prelude.{unwrap_or}
 use Rattle.db_text.specs.declared.mode.Mode.{Mode}
 use Rattle.db_text.specs.declared.mode.Mode.TheVariants as mode
 use Rattle.db_text.specs.declared.mode.Move.{Move}
@@ -12,10 +11,9 @@ use Rattle.db_text.specs.declared.notes.Notes.{Notes}
 use Rattle.db_text.specs.declared.parts.Parts.{Parts}
 use Rattle.db_text.specs.Text.{Placed, next_line, placed, line_behind}
 use Rattle.db_text.specs.Tree.{too_deep}
-use Rattle.db_text.specs.Grammar.{Document}
-use Rattle.db_text.specs.Machine.{Stack, notes, parts, State, state, at, no_notes, no_parts, start, decide, noted, parted, moved, step_from, fed, is_between, is_empty, is_whole}
-use Rattle.db_text.specs.Outcome.{Answer, after, at_end, outcome, after_part, built, text_outcome, text_built}
-use Rattle.db_text.specs.Refusal.{IsSpelled, IsText, Viable, IsFaulty, IsTooDeep, IsRefused, too_long, faulty, too_deep_within}
+use Rattle.db_text.specs.Machine.{Stack, notes, parts, State, state, at, no_notes, no_parts, start, decide, noted, parted, moved, step_from, fed, is_whole}
+use Rattle.db_text.specs.Outcome.{Answer, after, outcome, after_part, built, text_outcome, text_built}
+use Rattle.db_text.specs.Refusal.{IsSpelled, IsText, Viable, IsFaulty, IsRefused, too_long, faulty, too_deep_within}
 use Rattle.db_text.proofs.ByteTests.{length_push}
 use Rattle.db_text.proofs.Accepted.{known, accepted}
 use Rattle.db_text.proofs.Finishes.{finish}

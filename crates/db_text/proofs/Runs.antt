@@ -1,7 +1,7 @@
 -- Runs of bytes in one list.
-use Rattle.std.proofs.Common.{◌≡◌, ◌≢◌, ◌≤◌, ◌+◌, ℕ, suc, List, [], ◌∷◌, ◌++◌, ◌==◌, reverse, length, take, drop, refl, sym, ap, ◌∙◌, arith}
+use Rattle.std.proofs.Common.{◌≡◌, ◌≤◌, ℕ, suc, List, [], ◌∷◌, ◌++◌, ◌==◌, reverse, length, take, drop, refl, sym, ap, ◌∙◌, arith}
 use Rattle.std.proofs.lemmas.Bool.{ne_eqb}
-use Rattle.std.proofs.lemmas.List.{length-append, length-take-le, take-append-le, drop-append-le, length-reverse}
+use Rattle.std.proofs.lemmas.List.{length-append, take-append-le, drop-append-le, length-reverse}
 use Rattle.std.proofs.Math.Seq.{take-append_seam, drop-append_seam}
 use Rattle.db_text.specs.Machine.{Stack, added, is_empty}
 use Rattle.db_text.specs.Runs.{runs, AreWithin}

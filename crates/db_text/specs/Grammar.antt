@@ -7,7 +7,7 @@
 --   element = "<" name { S attr } [ S ] ( "/>" | ">" content "</" name [ S ] ">" )
 --   content = { space | comment | element }
 --   attr    = name [ S ] "=" [ S ] ( '"' { char } '"' | "'" { char } "'" )
-use Rattle.std.specs.Prelude.{◌≡◌, ℕ, Bool, true, false, List, [], ◌∷◌, ◌++◌, codes}
+use Rattle.std.specs.Prelude.{◌≡◌, ℕ, true, false, List, [], ◌∷◌, ◌++◌, codes}
 use Rattle.std.specs.List.{list_all}
 use Rattle.db_text.specs.declared.node.Attribute.{Attribute}
 use Rattle.db_text.specs.declared.node.Node.{Node}

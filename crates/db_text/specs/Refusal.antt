@@ -1,5 +1,5 @@
 -- Which texts are those of an element, and for every other the line and the code of its first fault.
-use Rattle.std.specs.Prelude.{ℕ, ◌<◌, ◌≤◌, ◌≡◌, ◌==◌, if◌then◌else◌, List, ◌++◌, length, take, Option, Some, None}
+use Rattle.std.specs.Prelude.{ℕ, ◌<◌, ◌≤◌, ◌≡◌, ◌==◌, if◌then◌else◌, List, ◌++◌, length, take, Some, None}
 use Rattle.db_text.specs.declared.limits.TheConstants.{MOST_TEXT_BYTES}
 use Rattle.db_text.specs.declared.node.Node.{Node}
 use Rattle.db_text.specs.Grammar.{Document}

@@ -1,5 +1,5 @@
 -- Runs of bytes that stand in one list, each from its start to the next one's.
-use Rattle.std.specs.Prelude.{ℕ, ◌≤◌, List, [], ◌∷◌, length, take, drop}
+use Rattle.std.specs.Prelude.{ℕ, ◌≤◌, List, [], ◌∷◌, take, drop}
 
 -- the runs, the last one first, of which these are the starts, the last one first
 abbrev pub runs : List ℕ → List ℕ → List (List ℕ)

@@ -1,7 +1,6 @@
 -- Elements as values, and those that stand too deep.
-use Rattle.std.specs.Prelude.{ℕ, suc, Bool, true, false, nat_lt, if◌then◌else◌, List, [], ◌∷◌, Option, Some, None}
+use Rattle.std.specs.Prelude.{ℕ, suc, nat_lt, if◌then◌else◌, List, [], ◌∷◌, Option, Some, None}
 use Rattle.db_text.specs.declared.node.Attribute.{Attribute}
-use Rattle.db_text.specs.declared.node.Node as node
 use Rattle.db_text.specs.declared.node.Node.{Node, Node-F, roll-Node, fold-Node}
 use Rattle.db_text.specs.declared.limits.TheConstants.{MOST_ELEMENT_DEPTH}
 

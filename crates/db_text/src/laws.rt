@@ -1,5 +1,6 @@
-//! The laws of the answers, each the contract of a function that does nothing.
+//! The laws of the answers, and texts written out, each the contract of a function that does nothing.
 
+ghost use Rattle.db_text.specs.Examples.{EmptyElements, Lines, Values, Unsaid, Early, Stuck};
 ghost use Rattle.db_text.specs.Laws.{HasAnswer, OneElement, ExcludesRefusal, OneRefusal};
 
 /// Each text has exactly one answer: it is that of an element, or it is refused with a line and a code; it is that
@@ -9,4 +10,14 @@ pub fn one_answer()
     ensures elements { OneElement }
     ensures refused { ExcludesRefusal }
     ensures faults { OneRefusal }
+{}
+
+/// Texts written out, and what they are: read as elements, or refused with a line and a code.
+pub fn worked_texts()
+    ensures empty { EmptyElements }
+    ensures lines { Lines }
+    ensures values { Values }
+    ensures unsaid { Unsaid }
+    ensures early { Early }
+    ensures stuck { Stuck }
 {}

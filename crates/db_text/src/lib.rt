@@ -21,6 +21,6 @@ mod tag;
 
 pub use fail::TextFail;
 pub use limits::{MOST_ELEMENT_DEPTH, MOST_TEXT_BYTES};
-pub use mode::{Act, Entity, Fixed, Mode, Move, Place};
+pub use mode::Entity;
 pub use node::{Attribute, AttributeList, Node, NodeList};
 pub use read::read_elements;

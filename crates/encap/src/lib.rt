@@ -7,6 +7,3 @@ mod chain;
 
 pub use cases::choose;
 pub use chain::{Chain, Entered};
-
-#[cfg(test)]
-mod tests;

@@ -1,5 +1,5 @@
 -- What each form of an expression gives, from what its parts give.
-use Rattle.std.specs.Prelude.{◌≡◌, ℕ, Bool, not, if◌then◌else◌, List, map, length, slice_get, Option, Some, None, Result, Ok, Err, []}
+use Rattle.std.specs.Prelude.{◌≡◌, ℕ, Bool, not, if◌then◌else◌, List, map, length, slice_get, Option, Some, None, Ok}
 use Rattle.std.proofs.Common.{refl, sym, ap, ◌∙◌}
 use Rattle.db_model.specs.declared.database.Database.{Database}
 use Rattle.db_model.specs.declared.env.Env.{Env}
@@ -9,14 +9,13 @@ use Rattle.db_model.specs.declared.expression.Operator.{Operator}
 use Rattle.db_model.specs.declared.tree.Reason.TheVariants as reason
 use Rattle.db_model.specs.declared.value.Value.{Value}
 use Rattle.db_model.specs.declared.value.Value.TheVariants.{Num, Buf, Proto}
-use Rattle.db_model.specs.Expression.{Eval, ◌>>=◌, result, give, val, value, num, buf, truth, is_so, binary, slice, to_number, in_bytes, last_of, is_present, keys_from, key_sizes, or_fail, row_hit, value_or_zero, variable_by}
+use Rattle.db_model.specs.Expression.{Eval, ◌>>=◌, result, give, val, value, num, buf, truth, is_so, binary, slice, to_number, in_bytes, last_of, is_present, look_up, or_fail, row_hit, value_or_zero, variable_by}
 use Rattle.db_model.specs.Names.{Text, protocol_at, table_at, column_at}
 use Rattle.db_model.specs.Numbers.{occurs}
-use Rattle.db_model.specs.Questions.{Gives}
 use Rattle.db_model.specs.Special.{special}
 use Rattle.db_model.specs.declared.expression.Special.{Special}
 use Rattle.db_model.proofs.Layers.{fold_number, fold_text, fold_protocol, fold_field, fold_variable, fold_column, fold_not, fold_and, fold_or, fold_binary, fold_slice, fold_to_number, fold_length_of, fold_to_bytes, fold_has_text, fold_is_present, fold_look_up}
-use Rattle.expr_eval.specs.Reads.{field_value, variable_value, column_value, looked_up}
+use Rattle.expr_eval.specs.Reads.{field_value, variable_value, column_value}
 
 module _ (db : Database) (fields : List Text) where
   -- ---- forms with parts
@@ -57,13 +56,9 @@ module _ (db : Database) (fields : List Text) where
   unfolding val
   has_text_is e a x text h g = ap (val db fields) (h ∙ ap (λ (c : Expr). expr.HasText c text) (sym g)) ∙ fold_has_text (Eval Value) (value db fields) x text
 
-  pub look_up_is : (e : Expr) (table : Text) (renew : Bool) (ks ps : List Expr) (sizes : List ℕ) (place : ℕ) → e ≡ expr.LookUp table renew ks → ps ≡ ks → sizes ≡ key_sizes (slice_get db.tables (table_at db table)) → place ≡ table_at db table
-      → val db fields e ≡ (keys_from [] sizes (map (val db fields) ps) >>= (λ keys. looked_up place keys renew))
+  pub look_up_is : (e : Expr) (table : Text) (renew : Bool) (ks ps : List Expr) → e ≡ expr.LookUp table renew ks → ps ≡ ks → val db fields e ≡ look_up (slice_get db.tables (table_at db table)) (table_at db table) renew (map (val db fields) ps)
   unfolding val
-  look_up_is e table renew ks ps sizes place h g s p =
-      ap (val db fields) (h ∙ ap (expr.LookUp table renew) (sym g)) ∙ fold_look_up (Eval Value) (value db fields) table renew ps
-      ∙ ap (λ l. keys_from [] l (map (val db fields) ps) >>= (λ keys. looked_up (table_at db table) keys renew)) (sym s)
-      ∙ ap (λ n. keys_from [] sizes (map (val db fields) ps) >>= (λ keys. looked_up n keys renew)) (sym p)
+  look_up_is e table renew ks ps h g = ap (val db fields) (h ∙ ap (expr.LookUp table renew) (sym g)) ∙ fold_look_up (Eval Value) (value db fields) table renew ps
 
   -- ---- forms without parts, at a state
 

@@ -1,4 +1,4 @@
 pub mod Bytes
 pub mod Steps
 pub mod Forms
-pub mod NoTables
+pub mod Backwards

@@ -1,26 +1,28 @@
 -- How evaluations are put together.
-use Rattle.std.specs.Prelude.{◌≡◌, ℕ, zero, suc, ◌+◌, ◌<◌, Bool, true, false, ◌==◌, if◌then◌else◌, List, [], ◌∷◌, ◌++◌, map, length, drop, slice_get, Option, Some, None, Result, Ok, Err, MatchResult}
+use Rattle.std.specs.Prelude.{◌≡◌, ℕ, zero, suc, ◌+◌, ◌<◌, ◌≤◌, Bool, true, false, ◌&&◌, ◌==◌, if◌then◌else◌, List, [], ◌∷◌, ◌++◌, map, length, drop, slice_get, Option, Some, None, Result, Ok, Err, MatchResult}
 use Rattle.std.proofs.Common.{refl, sym, ap, subst, ◌∙◌, append-nil, append_assoc, arith, get_or}
 use Rattle.std.proofs.lemmas.Bool.Decides.{Decides-eqb}
 use Rattle.db_model.specs.declared.database.Database.{Database}
+use Rattle.db_model.specs.declared.database.KeyDecl.{KeyDecl}
+use Rattle.db_model.specs.declared.database.TableDecl.{TableDecl}
 use Rattle.db_model.specs.declared.env.Env.{Env}
-use Rattle.db_model.specs.declared.no_memory.NoMemory.{NoMemory}
+use Rattle.db_model.specs.declared.question.Question.TheVariants.{Look}
 use Rattle.db_model.specs.declared.packet.Packet.{Packet}
 use Rattle.db_model.specs.declared.tree.Reason.{Reason}
 use Rattle.db_model.specs.declared.value.Value.{Value}
 use Rattle.db_model.specs.Expression.{Eval, ◌>>=◌, result, num, buf, is_so, when, keys_from}
-use Rattle.db_model.specs.Fitting.{keys_room}
+use Rattle.db_model.specs.Fitting.{keys_fit, look_fits_in, look_fits, question_fits}
 use Rattle.db_model.specs.Table.{KeyList}
 use Rattle.db_model.specs.declared.tree.Reason.TheVariants as reason
-use Rattle.db_model.specs.Over.{Point, point, Ends, Leads}
-use Rattle.db_model.specs.Questions.{Gives, play, pure, on_ok}
-use Rattle.db_model.specs.Session.{Session}
-use Rattle.db_model.proofs.Over.{ends_pure, ends_gives, ends_refused, ends_first, leads_then, leads_same}
+use Rattle.db_model.specs.Over.{Point, Ends}
+use Rattle.db_model.specs.Questions.{play, pure, on_ok}
+use Rattle.db_model.proofs.Over.{ends_pure, ends_refused, ends_first, leads_then, leads_same}
 use Rattle.expr_eval.specs.declared.end.EvalEnd.{EvalEnd}
 use Rattle.expr_eval.specs.declared.end.EvalEnd.TheVariants as end
 use Rattle.expr_eval.specs.declared.operand.Operand.{Operand}
 use Rattle.expr_eval.specs.declared.operand.Operand.TheVariants.{Own}
 use Rattle.expr_eval.specs.Operand.{shown}
+use Rattle.expr_eval.specs.Reads.{looked_up}
 use Rattle.expr_eval.specs.Evaluates.{outcome, Stays, Evaluates, itself, Gave}
 
 stays_on : (x y z : Env) → Stays x y → Stays y z → Stays x z
@@ -129,13 +131,13 @@ own_is packet v x e = ap (λ (y : Operand). Ok (shown packet y)) (sym e)
 
 -- ---- the keys of a look-up
 
--- what is there of the keys: whatever the rest does, the whole does; and with any further keys that have room, all have
+-- what is there of the keys: whatever the rest does, the whole does; and with any further keys that fit, all fit
 pub record Keys_so_far (db : Database) (sizes : List ℕ) (parts : List (Eval Value)) (m : Point Env) (keys : KeyList) (left : List ℕ) (rest : List (Eval Value)) (n : Point Env) : Type 0 where
   pub goes : (o : Result KeyList EvalEnd) (k : Point Env) → Evaluates db (keys_from keys left rest) itself n o k → Evaluates db (keys_from [] sizes parts) itself m o k
-  pub room : (more : KeyList) → keys_room left more ≡ true → keys_room sizes (keys ++ more) ≡ true
+  pub fits : (more : KeyList) → keys_fit left more ≡ true → keys_fit sizes (keys ++ more) ≡ true
 
 pub no_keys_yet : (db : Database) (sizes : List ℕ) (parts : List (Eval Value)) (m : Point Env) → Keys_so_far db sizes parts m [] sizes parts m
-no_keys_yet db sizes parts m = record { goes = λ o k h. h; room = λ more h. h }
+no_keys_yet db sizes parts m = record { goes = λ o k h. h; fits = λ more h. h }
 
 -- a key that is checked right after it is evaluated
 abbrev pub checked_key : ℕ → Value → Result (List ℕ) Reason
@@ -158,7 +160,7 @@ module _ (db : Database) (sizes : List ℕ) (parts : List (Eval Value)) (m : Poi
   key_made x key k s h g = record {
     goes = λ o l r. s.goes o l (then_ok db _ x h (then_ok db (λ (b : List ℕ). keys_from (keys ++ b ∷ []) left rest) {f = itself} key (gives db (checked_key size (shown n.held.packet.bytes x))
         (subst (λ (q : Packet). Gave (λ (b : List ℕ). b) (checked_key size (shown q.bytes x)) (Ok key)) (packet_stays n.held k.held h.stays) g)) r));
-    room = λ more r. subst (λ l. keys_room sizes l ≡ true) (sym (append_assoc keys (key ∷ []) more)) (s.room (key ∷ more) (fits key more (size_of g) r));
+    fits = λ more r. subst (λ l. keys_fit sizes l ≡ true) (sym (append_assoc keys (key ∷ []) more)) (s.fits (key ∷ more) (one_more key more (size_of g) r));
   }
     where
       by : (b : Bool) (v : List ℕ) → (length v == size) ≡ b → when b reason.KeySize v ≡ Ok key → length key ≡ size
@@ -168,22 +170,29 @@ module _ (db : Database) (sizes : List ℕ) (parts : List (Eval Value)) (m : Poi
       size_of : checked_key size (shown k.held.packet.bytes x) ≡ Ok key → length key ≡ size
       size_of g = by (length (buf (shown k.held.packet.bytes x)) == size) (buf (shown k.held.packet.bytes x)) refl g
 
-      fits : (key : List ℕ) (more : KeyList) → length key ≡ size → keys_room left more ≡ true → keys_room (size ∷ left) (key ∷ more) ≡ true
-      fits key more e r = (grind (arith, e, r))
+      one_more : (key : List ℕ) (more : KeyList) → length key ≡ size → keys_fit left more ≡ true → keys_fit (size ∷ left) (key ∷ more) ≡ true
+      one_more key more e r = ap (λ (b : Bool). b && keys_fit left more) ((Decides-eqb (length key) size).1 e) ∙ r
 
--- all keys are there where no size is left, or no part
-pub keys_end_sizes : (db : Database) (sizes : List ℕ) (parts : List (Eval Value)) (m : Point Env) (keys : KeyList) (rest : List (Eval Value)) (n : Point Env) → Keys_so_far db sizes parts m keys [] rest n → Evaluates db (keys_from [] sizes parts) itself m (Ok keys) n
-keys_end_sizes db sizes parts m keys rest n s = s.goes (Ok keys) n (gives db (Ok keys) refl)
+-- all keys are there, and fit, where no size is left
+pub keys_end : (db : Database) (sizes : List ℕ) (parts : List (Eval Value)) (m : Point Env) (keys : KeyList) (rest : List (Eval Value)) (n : Point Env) → Keys_so_far db sizes parts m keys [] rest n → Evaluates db (keys_from [] sizes parts) itself m (Ok keys) n
+keys_end db sizes parts m keys rest n s = s.goes (Ok keys) n (gives db (Ok keys) refl)
 
-pub keys_end_parts : (db : Database) (sizes : List ℕ) (parts : List (Eval Value)) (m : Point Env) (keys : KeyList) (left : List ℕ) (n : Point Env) → Keys_so_far db sizes parts m keys left [] n → Evaluates db (keys_from [] sizes parts) itself m (Ok keys) n
-keys_end_parts db sizes parts m keys left n s = s.goes (Ok keys) n (by left)
-  where
-    by : (l : List ℕ) → Evaluates db (keys_from keys l []) itself n (Ok keys) n
-    by [] = gives db (Ok keys) refl
-    by (x ∷ xs) = gives db (Ok keys) refl
+pub keys_fitted : (db : Database) (sizes : List ℕ) (parts : List (Eval Value)) (m : Point Env) (keys : KeyList) (rest : List (Eval Value)) (n : Point Env) → Keys_so_far db sizes parts m keys [] rest n → keys_fit sizes keys ≡ true
+keys_fitted db sizes parts m keys rest n s = subst (λ l. keys_fit sizes l ≡ true) (append-nil keys) (s.fits [] refl)
 
-pub keys_have_room : (db : Database) (sizes : List ℕ) (parts : List (Eval Value)) (m : Point Env) (keys : KeyList) (left : List ℕ) (rest : List (Eval Value)) (n : Point Env) → Keys_so_far db sizes parts m keys left rest n → keys_room sizes keys ≡ true
-keys_have_room db sizes parts m keys left rest n s = subst (λ l. keys_room sizes l ≡ true) (append-nil keys) (s.room [] refl)
+-- a size is left, and no part
+pub key_missing : (db : Database) (sizes : List ℕ) (parts : List (Eval Value)) (m : Point Env) (keys : KeyList) (left : List ℕ) (n : Point Env) → 0 < length left → Keys_so_far db sizes parts m keys left [] n → Evaluates db (keys_from [] sizes parts) itself m (Err (end.Fault reason.KeySize)) n
+key_missing db sizes parts m keys [] n l s = absurd (omega arith)
+key_missing db sizes parts m keys (size ∷ left) n l s = s.goes (Err (end.Fault reason.KeySize)) n (gives db (Err reason.KeySize) refl)
+
+-- the keys of these declarations, and then one question
+abbrev pub keys_then : List KeyDecl → List (Eval Value) → ℕ → Bool → Eval Value
+keys_then declared parts n renew = keys_from [] (map (λ (k : KeyDecl). k.size) declared) parts >>= (λ keys. looked_up n keys renew)
+
+-- keys that fit are a question that fits
+pub look_is_fit : (db : Database) (n k : ℕ) (d : TableDecl) (sizes : List ℕ) (keys : KeyList) (renew : Bool) → slice_get db.tables k ≡ Some d → n ≡ k → sizes ≡ map (λ (k : KeyDecl). k.size) d.keys → keys_fit sizes keys ≡ true → question_fits db (Look n keys renew) ≡ true
+unfolding question_fits look_fits
+look_is_fit db n k d sizes keys renew e p q h = ap (λ (i : ℕ). look_fits_in (slice_get db.tables i) keys) p ∙ ap (λ (o : Option TableDecl). look_fits_in o keys) e ∙ ap (λ (l : List ℕ). keys_fit l keys) (sym q) ∙ h
 
 -- the rest of a mapped list from a place on
 pub drop_some : {A B : Type 0} (f : A → B) (xs : List A) (i : ℕ) (x : A) → slice_get xs i ≡ Some x → drop i (map f xs) ≡ f x ∷ drop (i + 1) (map f xs)
@@ -196,6 +205,17 @@ drop_past f [] zero e = refl
 drop_past f [] (suc i) e = refl
 drop_past f (y ∷ ys) zero e = (cc)
 drop_past f (y ∷ ys) (suc i) e = drop_past f ys i e
+
+pub drop_beyond : {A B : Type 0} (f : A → B) (xs : List A) (i : ℕ) → length xs ≤ i → drop i (map f xs) ≡ []
+drop_beyond f [] zero l = refl
+drop_beyond f [] (suc i) l = refl
+drop_beyond f (x ∷ xs) zero l = absurd (omega arith)
+drop_beyond f (x ∷ xs) (suc i) l = drop_beyond f xs i (omega arith)
+
+pub drop_leaves : {A B : Type 0} (f : A → B) (xs : List A) (i : ℕ) → i < length xs → 0 < length (drop i (map f xs))
+drop_leaves f [] i l = absurd (omega arith)
+drop_leaves f (x ∷ xs) zero l = omega arith
+drop_leaves f (x ∷ xs) (suc i) l = drop_leaves f xs i (omega arith)
 
 pub drop_all : {A B : Type 0} (f : A → B) (xs : List A) → drop (length xs) (map f xs) ≡ []
 drop_all f [] = refl

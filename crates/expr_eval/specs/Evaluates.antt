@@ -4,7 +4,6 @@ use Rattle.db_model.specs.declared.database.Database.{Database}
 use Rattle.db_model.specs.declared.env.Env.{Env}
 use Rattle.db_model.specs.declared.no_memory.NoMemory.{NoMemory}
 use Rattle.db_model.specs.declared.tree.Reason.{Reason}
-use Rattle.db_model.specs.declared.value.Value.{Value}
 use Rattle.db_model.specs.Expression.{Eval}
 use Rattle.db_model.specs.Over.{Point, Ends}
 use Rattle.expr_eval.specs.declared.end.EvalEnd.{EvalEnd}

@@ -6,7 +6,7 @@ use Rattle.db_model.specs.declared.tree.Reason.{Reason}
 use Rattle.db_model.specs.declared.tree.Reason.TheVariants as reason
 use Rattle.db_model.specs.declared.value.Value.{Value}
 use Rattle.db_model.specs.declared.value.Value.TheVariants.{Buf}
-use Rattle.db_model.specs.Expression.{Eval, ◌>>=◌, special_value, value_or_zero, asks, found}
+use Rattle.db_model.specs.Expression.{Eval, ◌>>=◌, special_value, value_or_zero, asks, hit_as_number}
 use Rattle.db_model.specs.declared.question.Question.TheVariants.{Look}
 use Rattle.db_model.specs.Names.{Text, variable_at}
 use Rattle.db_model.specs.declared.expression.Special.{Special}
@@ -29,4 +29,4 @@ column_value (Some (Some row)) at = Ok (value_or_zero (slice_get row at))
 
 -- a look-up, once its keys are there: it is asked, and then a hit is 1
 abbrev pub looked_up : ℕ → List (List ℕ) → Bool → Eval Value
-looked_up table keys renew = asks (Look table keys renew) >>= found table
+looked_up table keys renew = asks (Look table keys renew) >>= hit_as_number table

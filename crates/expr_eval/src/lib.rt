@@ -14,6 +14,3 @@ mod values;
 
 pub use end::EvalEnd;
 pub use evaluation::eval;
-
-#[cfg(test)]
-mod tests;

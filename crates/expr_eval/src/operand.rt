@@ -12,7 +12,7 @@ use std::alloc::Global;
 
 /// What a part of an expression gives: a value of its own, or a piece of the packet's bytes, which is not
 /// copied while it is only measured, cut or converted.
-#[derive(Debug, Drop)]
+#[derive(Drop)]
 pub enum Operand {
     Own(Value),
     /// The bytes of the packet from a position on, `count` of them where so many are there.

@@ -1,4 +1,4 @@
-ghost use Rattle.std.specs.Prelude.{◌≡◌, ◌≤◌, length, slice_get, None, Ok, List, ℕ};
+ghost use Rattle.std.specs.Prelude.{◌≡◌, slice_get, None, Ok, List, ℕ};
 ghost use Rattle.db_model.specs.declared.value.Value.TheVariants.{Buf, Proto};
 ghost use Rattle.db_model.specs.Expression.{last_of, special_value, value_or_zero};
 ghost use Rattle.db_model.specs.Names.{protocol_at, table_at, column_at};
@@ -11,10 +11,10 @@ ghost use Rattle.expr_eval.specs.Reads.{field_value, variable_value, column_valu
 use crate::EvalEnd;
 use crate::fields::last_value;
 use crate::operand::Operand;
-use db_model::{Bytes, Database, Env, MOST_PROTOCOLS, Name, Reason, Row, Special, Value};
+use db_model::{Bytes, CheckedDb, Env, Name, Reason, Row, Special, Value};
 
 /// NoField: no field of this name was decoded.
-pub fn field(db: &Database, protocol: u16, name: &[u8], env: &Env) -> Result<Operand, EvalEnd>
+pub fn field(db: &CheckedDb, protocol: u16, name: &[u8], env: &Env) -> Result<Operand, EvalEnd>
     ensures { Gave (shown env.now.packet.bytes) (field_value (last_of (names_of_protocol db.now protocol) name.now env.now.present None)) result }
 {
     match last_value(db, protocol, name, env.present.as_slice()) {
@@ -50,7 +50,7 @@ fn value_at(row: &Row, at: usize) -> Result<Operand, EvalEnd>
 }
 
 /// The name stands without its `$`.
-pub fn variable(db: &Database, name: &[u8], env: &Env) -> Result<Operand, EvalEnd>
+pub fn variable(db: &CheckedDb, name: &[u8], env: &Env) -> Result<Operand, EvalEnd>
     ensures { Gave (shown env.now.packet.bytes) (Ok (variable_value db.now (special name.now) name.now env.now)) result }
 {
     match Special::of(name) {
@@ -59,32 +59,23 @@ pub fn variable(db: &Database, name: &[u8], env: &Env) -> Result<Operand, EvalEn
     }
 }
 
-/// The place of a column in the table of this number.
-fn column_place(db: &Database, table: usize, column: &[u8]) -> usize
-    ensures { result ≡ column_at (slice_get db.now.tables table) column.now }
-{
-    match db.tables.get(table) {
-        Some(declaration) => declaration.column_at(column),
-        None => 0,
-    }
-}
-
 /// NoHit: no row was hit in the table.
-pub fn column(db: &Database, table: &[u8], column: &[u8], env: &Env) -> Result<Operand, EvalEnd>
+pub fn column(db: &CheckedDb, table: &[u8], column: &[u8], env: &Env) -> Result<Operand, EvalEnd>
     ensures { Gave (shown env.now.packet.bytes) (column_value (slice_get env.now.hits (table_at db.now table.now)) (column_at (slice_get db.now.tables (table_at db.now table.now)) column.now)) result }
 {
     let place = db.table_at(table);
-    let at = column_place(db, place, column);
+    let at = db.column_at(place, column);
     match env.hits.get(place) {
         Some(Some(row)) => value_at(row, at),
         Some(None) | None => Err(EvalEnd::Fault(Reason::NoHit)),
     }
 }
 
-pub fn protocol(db: &Database, name: &Name) -> Value
-    requires { length db.now.protocols ≤ MOST_PROTOCOLS }
+pub fn protocol(db: &CheckedDb, name: &Name) -> Value
     ensures { result ≡ Proto (protocol_at db.now name.now) }
 {
+    // Its contract says that a checked database has few enough protocols for their numbers.
+    let _database = db.database();
     Value::Proto(db.protocol_at(name.as_slice()) as u16)
 }
 

@@ -1,6 +1,7 @@
-ghost use Rattle.std.specs.Prelude.{◌≡◌, ◌<◌, true, slice_get, slice_set, Some};
+ghost use Rattle.std.specs.Prelude.{◌≡◌, ◌<◌, true, slice_set, Some};
 ghost use Rattle.expr_eval.specs.Reads.{looked_up};
-ghost use Rattle.db_model.specs.Fitting.{look_has_room};
+ghost use Rattle.db_model.specs.Fitting.{question_fits};
+ghost use Rattle.db_model.specs.declared.question.Question.TheVariants.{Look};
 ghost use Rattle.db_model.specs.Over.{point};
 ghost use Rattle.expr_eval.specs.Evaluates.{Evaluates};
 ghost use Rattle.expr_eval.specs.Operand.{shown};
@@ -20,7 +21,7 @@ pub fn look<A: Answers>(
 ) -> Result<Operand, EvalEnd>
     requires database { A.database answers.old ≡ db.now }
     requires time { env.old.packet.stamp < STAMP_END }
-    requires room { look_has_room (slice_get db.now.tables table) keys ≡ true }
+    requires fits { question_fits db.now (Look table keys renew) ≡ true }
     ensures database { A.database answers.new ≡ A.database answers.old }
     ensures packet { env.new.packet ≡ env.old.packet }
     ensures value { Evaluates db.now (looked_up table keys renew) shown (point env.old (A.content answers.old) (A.told answers.old)) result (point env.new (A.content answers.new) (A.told answers.new)) }

@@ -2,16 +2,19 @@
 use Rattle.std.proofs.Common.{◌≡◌, ◌≤◌, ◌+◌, ◌-◌, ℕ, zero, suc, Bool, true, false, nat_le, if◌then◌else◌, List, [], ◌∷◌, ◌++◌, Option, Some, None, refl, sym, ap, subst, ◌∙◌, arith, append_assoc, append-nil}
 use Rattle.std.proofs.lemmas.Bool.{leb-true}
 use Rattle.db_model.specs.declared.expression.Expr.{Expr}
-use Rattle.db_model.specs.declared.expression.Expr.TheVariants as expr
-use Rattle.expr_text.specs.declared.machine.Frame.TheVariants as frame
+use Rattle.expr_text.specs.declared.machine.Begun.{Begun}
+use Rattle.expr_text.specs.declared.machine.Begun.TheVariants as begun
 use Rattle.expr_text.specs.declared.machine.Mode.{Mode}
 use Rattle.expr_text.specs.declared.machine.Mode.TheVariants as mode
+use Rattle.expr_text.specs.declared.machine.Next.TheVariants as next
+use Rattle.expr_text.specs.declared.machine.Wanted.TheVariants as wanted_as
+use Rattle.expr_text.specs.declared.state.State.{State}
 use Rattle.expr_text.specs.declared.token.Call.TheVariants as call
 use Rattle.expr_text.specs.declared.token.Token.{Token}
 use Rattle.expr_text.specs.declared.token.Token.TheVariants as token
-use Rattle.expr_text.specs.Tokens.{level_of, left_level_of, joined_by}
+use Rattle.expr_text.specs.Tokens.{level_of, left_level_of}
 use Rattle.expr_text.specs.Grammar.{Reads, ReadsKeys, number, text, protocol, variable, column, field, group, to_number, length_of, to_bytes, has_text, is_present, look_up, slice, binary, negated, tighter, last, key, Spells}
-use Rattle.expr_text.specs.Machine.{Stack, State, Joined, at, joined, start, wanted, join, when, begin, go_on, close, colon, close_bracket, comma, open_call, open_present, present_name, open_look_up, table_name, key_or_end, size, searched, closes, step_in, step, alone, end_in, fed, ended}
+use Rattle.expr_text.specs.Machine.{Stack, Joined, at, frame, joined, start, wanted_by, wanted, binds, built, join, when, begin, go_on, close_in, close, colon_in, colon, close_bracket_in, close_bracket, comma_in, comma, open_call, open_present, present_name, open_look_up, table_name, key_or_end, size, searched, closes, step_in, step, alone, end_in, fed, ended}
 use Rattle.expr_text.proofs.Levels.{sides}
 
 -- ---- an expression of a level is one of each looser level
@@ -41,48 +44,58 @@ lower l p {e} {ts} {rest} h d =
 abbrev SoFar : List Expr → List Token → List Token → Type 0
 SoFar es ts us = (fs : List Expr) (rest : List Token) → ReadsKeys fs us rest → ReadsKeys (es ++ fs) ts rest
 
+wanted_most : (b : Begun) → wanted_by b ≤ 7
+wanted_most (begun.Operand o) = let s = sides o in omega (arith, s.most)
+wanted_most begun.Negated = omega arith
+wanted_most begun.Parenthesis = omega arith
+wanted_most begun.Start = omega arith
+wanted_most begun.Length = omega arith
+wanted_most (begun.Argument f) = omega arith
+wanted_most (begun.Key table renew) = omega arith
+
 wanted_bound : (k : Stack) → wanted k ≤ 7
 wanted_bound [] = omega arith
-wanted_bound (frame.Operand o a ∷ k) = let s = sides o in omega (arith, s.most)
-wanted_bound (frame.Negated ∷ k) = omega arith
-wanted_bound (frame.Parenthesis ∷ k) = omega arith
-wanted_bound (frame.Start b ∷ k) = omega arith
-wanted_bound (frame.Length b from ∷ k) = omega arith
-wanted_bound (frame.Argument f ∷ k) = omega arith
-wanted_bound (frame.Key table renew keys ∷ k) = omega arith
+wanted_bound (f ∷ k) = wanted_most f.kind
 
 by_if : (P : Joined → Type 0) (t : Bool) (x y : Joined) → (t ≡ true → P x) → P y → P (if t then x else y)
 by_if P true x y f h = f refl
 by_if P false x y f h = h
 
 module _ (all : List Token) where
+  -- what was begun, with its parts, waits at ts, behind what `W` says of what stands before it and an open stack that wants this level
+  abbrev WaitsIn : Begun → List Expr → ℕ → (List Token → Type 0) → List Token → Type 0
+  WaitsIn (begun.Operand o) (a ∷ []) least W ts = (from : List Token) × Reads (left_level_of o) a from (token.Operator o ∷ ts) × (least ≤ level_of o) × W from
+  WaitsIn (begun.Operand o) _ least W ts = ⊥
+  WaitsIn begun.Negated parts least W ts = (least ≤ 3) × W (token.Not ∷ ts)
+  WaitsIn begun.Parenthesis parts least W ts = W (token.Open ∷ ts)
+  WaitsIn begun.Start (b ∷ []) least W ts = (from : List Token) × Reads 7 b from (token.OpenBracket ∷ ts) × W from
+  WaitsIn begun.Start _ least W ts = ⊥
+  WaitsIn begun.Length (b ∷ (o ∷ [])) least W ts = (from : List Token) × (mid : List Token) × Reads 7 b from (token.OpenBracket ∷ mid) × Reads 1 o mid (token.Colon ∷ ts) × W from
+  WaitsIn begun.Length _ least W ts = ⊥
+  WaitsIn (begun.Argument f) parts least W ts = W (token.Call f ∷ token.Open ∷ ts)
+  WaitsIn (begun.Key table renew) keys least W ts = (from : List Token) × SoFar keys from (token.Comma ∷ ts) × W (token.LookUp renew ∷ token.Open ∷ token.Name table ∷ from)
+
   -- what stands behind an open stack that waits at ts
   abbrev Waits : Stack → List Token → Type 0
   Waits [] ts = ts ≡ all
-  Waits (frame.Operand o a ∷ k) ts = (from : List Token) × Reads (left_level_of o) a from (token.Operator o ∷ ts) × (wanted k ≤ level_of o) × Waits k from
-  Waits (frame.Negated ∷ k) ts = (wanted k ≤ 3) × Waits k (token.Not ∷ ts)
-  Waits (frame.Parenthesis ∷ k) ts = Waits k (token.Open ∷ ts)
-  Waits (frame.Start b ∷ k) ts = (from : List Token) × Reads 7 b from (token.OpenBracket ∷ ts) × Waits k from
-  Waits (frame.Length b o ∷ k) ts = (from : List Token) × (mid : List Token) × Reads 7 b from (token.OpenBracket ∷ mid) × Reads 1 o mid (token.Colon ∷ ts) × Waits k from
-  Waits (frame.Argument f ∷ k) ts = Waits k (token.Call f ∷ token.Open ∷ ts)
-  Waits (frame.Key table renew keys ∷ k) ts = (from : List Token) × SoFar keys from (token.Comma ∷ ts) × Waits k (token.LookUp renew ∷ token.Open ∷ token.Name table ∷ from)
+  Waits (f ∷ k) ts = WaitsIn f.kind f.parts (wanted k) (Waits k) ts
 
   -- an expression of at least this level was read
   abbrev Behind : ℕ → List Token → Joined → Type 0
   Behind l rest j = (from : List Token) × Reads l j.value from rest × Waits j.stack from
 
   abbrev In : Mode → Stack → List Token → Type 0
-  In mode.Wants k ts = Waits k ts
-  In (mode.Has e) k ts = Behind 7 ts (joined e k)
-  In (mode.CallOpens f) k ts = Waits k (token.Call f ∷ ts)
-  In mode.PresentOpens k ts = Waits k (token.IsPresent ∷ ts)
-  In mode.PresentName k ts = Waits k (token.IsPresent ∷ token.Open ∷ ts)
-  In (mode.LookUpOpens renew) k ts = Waits k (token.LookUp renew ∷ ts)
-  In (mode.TableName renew) k ts = Waits k (token.LookUp renew ∷ token.Open ∷ ts)
+  In (mode.Wants wanted_as.Expression) k ts = Waits k ts
+  In (mode.Behind next.Any e) k ts = Behind 7 ts (joined e k)
+  In (mode.Wants (wanted_as.CallOpens f)) k ts = Waits k (token.Call f ∷ ts)
+  In (mode.Wants wanted_as.PresentOpens) k ts = Waits k (token.IsPresent ∷ ts)
+  In (mode.Wants wanted_as.PresentName) k ts = Waits k (token.IsPresent ∷ token.Open ∷ ts)
+  In (mode.Wants (wanted_as.LookUpOpens renew)) k ts = Waits k (token.LookUp renew ∷ ts)
+  In (mode.Wants (wanted_as.TableName renew)) k ts = Waits k (token.LookUp renew ∷ token.Open ∷ ts)
   In (mode.Keys table renew keys) k ts = (from : List Token) × SoFar keys from ts × Waits k (token.LookUp renew ∷ token.Open ∷ token.Name table ∷ from)
-  In (mode.Size e) k ts = (from : List Token) × Reads 1 e from (token.Comma ∷ ts) × Waits k (token.Call call.ToBytes ∷ token.Open ∷ from)
-  In (mode.Searched e) k ts = (from : List Token) × Reads 1 e from (token.Comma ∷ ts) × Waits k (token.Call call.HasText ∷ token.Open ∷ from)
-  In (mode.Closes e) k ts = (rest : List Token) → ts ≡ token.Close ∷ rest → Behind 7 rest (joined e k)
+  In (mode.Behind next.Size e) k ts = (from : List Token) × Reads 1 e from (token.Comma ∷ ts) × Waits k (token.Call call.ToBytes ∷ token.Open ∷ from)
+  In (mode.Behind next.Searched e) k ts = (from : List Token) × Reads 1 e from (token.Comma ∷ ts) × Waits k (token.Call call.HasText ∷ token.Open ∷ from)
+  In (mode.Behind next.Closes e) k ts = (rest : List Token) → ts ≡ token.Close ∷ rest → Behind 7 rest (joined e k)
 
   abbrev IfIn : Option State → List Token → Type 0
   IfIn None ts = Unit {0}
@@ -90,23 +103,37 @@ module _ (all : List Token) where
 
   -- ---- joining
 
+  -- an expression that a frame made, of a level that is wanted behind the frame
+  record Made (l least : ℕ) (W : List Token → Type 0) (rest : List Token) (e : Expr) : Type 0 where
+    level : ℕ
+    enough : l ≤ level
+    allowed : least ≤ level
+    from : List Token
+    reads : Reads level e from rest
+    waits : W from
+
+  makes : (b : Begun) (parts : List Expr) (l p least : ℕ) (W : List Token → Type 0) (e : Expr) (from rest : List Token) → wanted_by b ≤ p → binds l b ≡ true → Reads p e from rest → WaitsIn b parts least W from
+      → Made l least W rest (built b parts e)
+  makes (begun.Operand o) [] l p least W e from rest q t d w = absurd w
+  makes (begun.Operand o) (a ∷ []) l p least W e from rest q t d w =
+      let more : suc (level_of o) ≤ p = q in
+      record { level = level_of o; enough = leb-true _ _ t; allowed = w.2; from = w.0; reads = binary w.1 (lower (suc (level_of o)) p more d); waits = w.3 }
+  makes (begun.Operand o) (a ∷ (b ∷ parts)) l p least W e from rest q t d w = absurd w
+  makes begun.Negated parts l p least W e from rest q t d w =
+      let more : 3 ≤ p = q in
+      record { level = 3; enough = leb-true _ _ t; allowed = w.0; from = token.Not ∷ from; reads = negated (lower 3 p more d); waits = w.1 }
+  makes begun.Parenthesis parts l p least W e from rest q t d w = cc
+  makes begun.Start parts l p least W e from rest q t d w = cc
+  makes begun.Length parts l p least W e from rest q t d w = cc
+  makes (begun.Argument f) parts l p least W e from rest q t d w = cc
+  makes (begun.Key table renew) parts l p least W e from rest q t d w = cc
+
   keeps_join : (l p : ℕ) (e : Expr) (k : Stack) (from rest : List Token) → l ≤ p → wanted k ≤ p → Reads p e from rest → Waits k from → Behind l rest (join l e k)
   keeps_join l p e [] from rest h q d w = (from, lower l p h d, w)
-  keeps_join l p e (frame.Operand o a ∷ k) from rest h q d w =
-      let least : suc (level_of o) ≤ p = q in
-      by_if (Behind l rest) (nat_le l (level_of o)) (join l (joined_by o a e) k) (joined e (frame.Operand o a ∷ k))
-      (λ t. keeps_join l (level_of o) (joined_by o a e) k w.0 rest (leb-true _ _ t) w.2 (binary w.1 (lower (suc (level_of o)) p least d)) w.3)
+  keeps_join l p e (f ∷ k) from rest h q d w =
+      by_if (Behind l rest) (binds l f.kind) (join l (built f.kind f.parts e) k) (joined e (f ∷ k))
+      (λ t. let m = makes f.kind f.parts l p (wanted k) (Waits k) e from rest q t d w in keeps_join l m.level (built f.kind f.parts e) k m.from rest m.enough m.allowed m.reads m.waits)
       (from, lower l p h d, w)
-  keeps_join l p e (frame.Negated ∷ k) from rest h q d w =
-      let least : 3 ≤ p = q in
-      by_if (Behind l rest) (nat_le l 3) (join l (expr.Not e) k) (joined e (frame.Negated ∷ k))
-      (λ t. keeps_join l 3 (expr.Not e) k (token.Not ∷ from) rest (leb-true _ _ t) w.0 (negated (lower 3 p least d)) w.1)
-      (from, lower l p h d, w)
-  keeps_join l p e (frame.Parenthesis ∷ k) from rest h q d w = (from, lower l p h d, w)
-  keeps_join l p e (frame.Start b ∷ k) from rest h q d w = (from, lower l p h d, w)
-  keeps_join l p e (frame.Length b o ∷ k) from rest h q d w = (from, lower l p h d, w)
-  keeps_join l p e (frame.Argument f ∷ k) from rest h q d w = (from, lower l p h d, w)
-  keeps_join l p e (frame.Key table renew keys ∷ k) from rest h q d w = (from, lower l p h d, w)
 
   joins : (l : ℕ) (e : Expr) (k : Stack) (rest : List Token) → l ≤ 7 → Behind 7 rest (joined e k) → Behind l rest (join l e k)
   joins l e k rest h b = keeps_join l 7 e k b.0 rest h (wanted_bound k) b.1 b.2
@@ -128,69 +155,72 @@ module _ (all : List Token) where
   keeps_begin k (token.Protocol name) rest w = part _ k _ rest protocol w
   keeps_begin k (token.Variable name) rest w = part _ k _ rest variable w
   keeps_begin k (token.Column table name) rest w = part _ k _ rest column w
-  keeps_begin k token.Not rest w = by_when (nat_le (wanted k) 3) (at mode.Wants (frame.Negated ∷ k)) rest (λ t. (leb-true _ _ t, w))
+  keeps_begin k token.Not rest w = by_when (nat_le (wanted k) 3) (at (mode.Wants wanted_as.Expression) (frame begun.Negated [] ∷ k)) rest (λ t. (leb-true _ _ t, w))
   keeps_begin k token.Open rest w = w
   keeps_begin k (token.Call f) rest w = w
   keeps_begin k token.IsPresent rest w = w
   keeps_begin k (token.LookUp renew) rest w = w
   keeps_begin k _ rest w = tt
 
-  keeps_close : (e : Expr) (k : Stack) (rest : List Token) → Behind 1 (token.Close ∷ rest) (joined e k) → IfIn (close e k) rest
-  keeps_close e [] rest b = tt
-  keeps_close e (frame.Operand o a ∷ k) rest b = tt
-  keeps_close e (frame.Negated ∷ k) rest b = tt
-  keeps_close e (frame.Parenthesis ∷ k) rest b = part _ k _ rest (group b.1) b.2
-  keeps_close e (frame.Start c ∷ k) rest b = tt
-  keeps_close e (frame.Length c o ∷ k) rest b = tt
-  keeps_close e (frame.Argument call.ToNumber ∷ k) rest b = part _ k _ rest (to_number b.1) b.2
-  keeps_close e (frame.Argument call.LengthOf ∷ k) rest b = part _ k _ rest (length_of b.1) b.2
-  keeps_close e (frame.Argument call.ToBytes ∷ k) rest b = tt
-  keeps_close e (frame.Argument call.HasText ∷ k) rest b = tt
-  keeps_close e (frame.Key table renew keys ∷ k) rest b =
+  abbrev BehindIn : Begun → List Expr → Expr → Stack → List Token → Type 0
+  BehindIn b parts e k rest = (from : List Token) × Reads 1 e from rest × WaitsIn b parts (wanted k) (Waits k) from
+
+  keeps_close_in : (b : Begun) (parts : List Expr) (e : Expr) (k : Stack) (rest : List Token) → BehindIn b parts e k (token.Close ∷ rest) → IfIn (close_in b parts e k) rest
+  keeps_close_in begun.Parenthesis parts e k rest b = part _ k _ rest (group b.1) b.2
+  keeps_close_in (begun.Argument call.ToNumber) parts e k rest b = part _ k _ rest (to_number b.1) b.2
+  keeps_close_in (begun.Argument call.LengthOf) parts e k rest b = part _ k _ rest (length_of b.1) b.2
+  keeps_close_in (begun.Argument call.ToBytes) parts e k rest b = tt
+  keeps_close_in (begun.Argument call.HasText) parts e k rest b = tt
+  keeps_close_in (begun.Key table renew) keys e k rest b =
       let w = b.2 in
       part _ k _ rest (look_up (w.1 (e ∷ []) rest (key b.1 last))) w.2
+  keeps_close_in _ parts e k rest b = tt
+
+  keeps_close : (e : Expr) (k : Stack) (rest : List Token) → Behind 1 (token.Close ∷ rest) (joined e k) → IfIn (close e k) rest
+  keeps_close e [] rest b = tt
+  keeps_close e (f ∷ k) rest b = keeps_close_in f.kind f.parts e k rest b
+
+  keeps_comma_in : (b : Begun) (parts : List Expr) (e : Expr) (k : Stack) (rest : List Token) → BehindIn b parts e k (token.Comma ∷ rest) → IfIn (comma_in b parts e k) rest
+  keeps_comma_in (begun.Argument call.ToNumber) parts e k rest b = tt
+  keeps_comma_in (begun.Argument call.LengthOf) parts e k rest b = tt
+  keeps_comma_in (begun.Argument call.ToBytes) parts e k rest b = b
+  keeps_comma_in (begun.Argument call.HasText) parts e k rest b = b
+  keeps_comma_in (begun.Key table renew) keys e k rest b =
+      let w = b.2 in
+      (w.0, λ fs r ks. rw (append_assoc keys (e ∷ []) fs) (w.1 (e ∷ fs) r (key b.1 ks)), w.2)
+  keeps_comma_in _ parts e k rest b = tt
 
   keeps_comma : (e : Expr) (k : Stack) (rest : List Token) → Behind 1 (token.Comma ∷ rest) (joined e k) → IfIn (comma e k) rest
   keeps_comma e [] rest b = tt
-  keeps_comma e (frame.Operand o a ∷ k) rest b = tt
-  keeps_comma e (frame.Negated ∷ k) rest b = tt
-  keeps_comma e (frame.Parenthesis ∷ k) rest b = tt
-  keeps_comma e (frame.Start c ∷ k) rest b = tt
-  keeps_comma e (frame.Length c o ∷ k) rest b = tt
-  keeps_comma e (frame.Argument call.ToNumber ∷ k) rest b = tt
-  keeps_comma e (frame.Argument call.LengthOf ∷ k) rest b = tt
-  keeps_comma e (frame.Argument call.ToBytes ∷ k) rest b = b
-  keeps_comma e (frame.Argument call.HasText ∷ k) rest b = b
-  keeps_comma e (frame.Key table renew keys ∷ k) rest b =
-      let w = b.2 in
-      (w.0, λ fs r ks. rw (append_assoc keys (e ∷ []) fs) (w.1 (e ∷ fs) r (key b.1 ks)), w.2)
+  keeps_comma e (f ∷ k) rest b = keeps_comma_in f.kind f.parts e k rest b
+
+  keeps_colon_in : (b : Begun) (parts : List Expr) (e : Expr) (k : Stack) (rest : List Token) → BehindIn b parts e k (token.Colon ∷ rest) → IfIn (colon_in b parts e k) rest
+  keeps_colon_in begun.Start [] e k rest b = absurd b.2
+  keeps_colon_in begun.Start (c ∷ []) e k rest b = let w = b.2 in (w.0, b.0, w.1, b.1, w.2)
+  keeps_colon_in begun.Start (c ∷ (d ∷ parts)) e k rest b = absurd b.2
+  keeps_colon_in _ parts e k rest b = tt
 
   keeps_colon : (e : Expr) (k : Stack) (rest : List Token) → Behind 1 (token.Colon ∷ rest) (joined e k) → IfIn (colon e k) rest
-  keeps_colon e (frame.Start c ∷ k) rest b = let w = b.2 in (w.0, b.0, w.1, b.1, w.2)
   keeps_colon e [] rest b = tt
-  keeps_colon e (frame.Operand o a ∷ k) rest b = tt
-  keeps_colon e (frame.Negated ∷ k) rest b = tt
-  keeps_colon e (frame.Parenthesis ∷ k) rest b = tt
-  keeps_colon e (frame.Length c o ∷ k) rest b = tt
-  keeps_colon e (frame.Argument f ∷ k) rest b = tt
-  keeps_colon e (frame.Key table renew keys ∷ k) rest b = tt
+  keeps_colon e (f ∷ k) rest b = keeps_colon_in f.kind f.parts e k rest b
+
+  keeps_close_bracket_in : (b : Begun) (parts : List Expr) (e : Expr) (k : Stack) (rest : List Token) → BehindIn b parts e k (token.CloseBracket ∷ rest) → IfIn (close_bracket_in b parts e k) rest
+  keeps_close_bracket_in begun.Length [] e k rest b = absurd b.2
+  keeps_close_bracket_in begun.Length (c ∷ []) e k rest b = absurd b.2
+  keeps_close_bracket_in begun.Length (c ∷ (o ∷ [])) e k rest b = let w = b.2 in (w.0, slice w.2 w.3 b.1, w.4)
+  keeps_close_bracket_in begun.Length (c ∷ (o ∷ (d ∷ parts))) e k rest b = absurd b.2
+  keeps_close_bracket_in _ parts e k rest b = tt
 
   keeps_close_bracket : (e : Expr) (k : Stack) (rest : List Token) → Behind 1 (token.CloseBracket ∷ rest) (joined e k) → IfIn (close_bracket e k) rest
-  keeps_close_bracket e (frame.Length c o ∷ k) rest b = let w = b.2 in (w.0, slice w.2 w.3 b.1, w.4)
   keeps_close_bracket e [] rest b = tt
-  keeps_close_bracket e (frame.Operand o a ∷ k) rest b = tt
-  keeps_close_bracket e (frame.Negated ∷ k) rest b = tt
-  keeps_close_bracket e (frame.Parenthesis ∷ k) rest b = tt
-  keeps_close_bracket e (frame.Start c ∷ k) rest b = tt
-  keeps_close_bracket e (frame.Argument f ∷ k) rest b = tt
-  keeps_close_bracket e (frame.Key table renew keys ∷ k) rest b = tt
+  keeps_close_bracket e (f ∷ k) rest b = keeps_close_bracket_in f.kind f.parts e k rest b
 
   keeps_go_on : (e : Expr) (k : Stack) (t : Token) (rest : List Token) → Behind 7 (t ∷ rest) (joined e k) → IfIn (go_on e k t) rest
   keeps_go_on e k (token.Operator o) rest b =
       let s = sides o in
       let j = join (left_level_of o) e k in
       let c = joins (left_level_of o) e k (token.Operator o ∷ rest) s.bound b in
-      by_when (nat_le (wanted j.stack) (level_of o)) (at mode.Wants (frame.Operand o j.value ∷ j.stack)) rest (λ t. (c.0, c.1, leb-true _ _ t, c.2))
+      by_when (nat_le (wanted j.stack) (level_of o)) (at (mode.Wants wanted_as.Expression) (frame (begun.Operand o) (j.value ∷ []) ∷ j.stack)) rest (λ t. (c.0, c.1, leb-true _ _ t, c.2))
   keeps_go_on e k token.OpenBracket rest b = b
   keeps_go_on e k token.Close rest b = let j = join 1 e k in keeps_close j.value j.stack rest (joins 1 e k (token.Close ∷ rest) (omega arith) b)
   keeps_go_on e k token.Comma rest b = let j = join 1 e k in keeps_comma j.value j.stack rest (joins 1 e k (token.Comma ∷ rest) (omega arith) b)
@@ -223,30 +253,30 @@ module _ (all : List Token) where
   keeps_key_or_end table renew keys k token.Close rest w = part _ k _ rest (look_up (rw (← append-nil keys) (w.1 [] rest last))) w.2
   keeps_key_or_end table renew keys k _ rest w = tt
 
-  keeps_size : (e : Expr) (k : Stack) (t : Token) (rest : List Token) → In (mode.Size e) k (t ∷ rest) → IfIn (size e k t) rest
+  keeps_size : (e : Expr) (k : Stack) (t : Token) (rest : List Token) → In (mode.Behind next.Size e) k (t ∷ rest) → IfIn (size e k t) rest
   keeps_size e k (token.Number n) rest w = λ then_ q. part _ k _ then_ (to_bytes (subst (λ x. Reads 1 e w.0 (token.Comma ∷ token.Number n ∷ x)) q w.1)) w.2
   keeps_size e k _ rest w = tt
 
-  keeps_searched : (e : Expr) (k : Stack) (t : Token) (rest : List Token) → In (mode.Searched e) k (t ∷ rest) → IfIn (searched e k t) rest
+  keeps_searched : (e : Expr) (k : Stack) (t : Token) (rest : List Token) → In (mode.Behind next.Searched e) k (t ∷ rest) → IfIn (searched e k t) rest
   keeps_searched e k (token.Text b) rest w = λ then_ q. part _ k _ then_ (has_text (subst (λ x. Reads 1 e w.0 (token.Comma ∷ token.Text b ∷ x)) q w.1)) w.2
   keeps_searched e k _ rest w = tt
 
-  keeps_closes : (e : Expr) (k : Stack) (t : Token) (rest : List Token) → In (mode.Closes e) k (t ∷ rest) → IfIn (closes e k t) rest
+  keeps_closes : (e : Expr) (k : Stack) (t : Token) (rest : List Token) → In (mode.Behind next.Closes e) k (t ∷ rest) → IfIn (closes e k t) rest
   keeps_closes e k token.Close rest w = w rest refl
   keeps_closes e k _ rest w = tt
 
   keeps : (m : Mode) (k : Stack) (t : Token) (rest : List Token) → In m k (t ∷ rest) → IfIn (step_in m k t) rest
-  keeps mode.Wants k t rest w = keeps_begin k t rest w
-  keeps (mode.Has e) k t rest w = keeps_go_on e k t rest w
-  keeps (mode.CallOpens f) k t rest w = keeps_open_call k t rest f w
-  keeps mode.PresentOpens k t rest w = keeps_open_present k t rest w
-  keeps mode.PresentName k t rest w = keeps_present_name k t rest w
-  keeps (mode.LookUpOpens renew) k t rest w = keeps_open_look_up renew k t rest w
-  keeps (mode.TableName renew) k t rest w = keeps_table_name renew k t rest w
+  keeps (mode.Wants wanted_as.Expression) k t rest w = keeps_begin k t rest w
+  keeps (mode.Behind next.Any e) k t rest w = keeps_go_on e k t rest w
+  keeps (mode.Wants (wanted_as.CallOpens f)) k t rest w = keeps_open_call k t rest f w
+  keeps (mode.Wants wanted_as.PresentOpens) k t rest w = keeps_open_present k t rest w
+  keeps (mode.Wants wanted_as.PresentName) k t rest w = keeps_present_name k t rest w
+  keeps (mode.Wants (wanted_as.LookUpOpens renew)) k t rest w = keeps_open_look_up renew k t rest w
+  keeps (mode.Wants (wanted_as.TableName renew)) k t rest w = keeps_table_name renew k t rest w
   keeps (mode.Keys table renew keys) k t rest w = keeps_key_or_end table renew keys k t rest w
-  keeps (mode.Size e) k t rest w = keeps_size e k t rest w
-  keeps (mode.Searched e) k t rest w = keeps_searched e k t rest w
-  keeps (mode.Closes e) k t rest w = keeps_closes e k t rest w
+  keeps (mode.Behind next.Size e) k t rest w = keeps_size e k t rest w
+  keeps (mode.Behind next.Searched e) k t rest w = keeps_searched e k t rest w
+  keeps (mode.Behind next.Closes e) k t rest w = keeps_closes e k t rest w
 
   -- ---- all tokens
 
@@ -260,7 +290,7 @@ module _ (all : List Token) where
   alone_spells e v (f ∷ k) b q = cc
 
   end_spells : (e : Expr) (m : Mode) (k : Stack) → In m k [] → end_in m k ≡ Some e → Spells e all
-  end_spells e (mode.Has v) k w q = let j = join 1 v k in alone_spells e j.value j.stack (joins 1 v k [] (omega arith) w) q
+  end_spells e (mode.Behind next.Any v) k w q = let j = join 1 v k in alone_spells e j.value j.stack (joins 1 v k [] (omega arith) w) q
   end_spells e _ k w q = cc
 
   ended_spells : (e : Expr) (s : Option State) → IfIn s [] → ended s ≡ Some e → Spells e all

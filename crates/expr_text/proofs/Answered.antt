@@ -20,23 +20,30 @@ both true true h = (refl, refl)
 both true false h = cc
 both false b h = cc
 
-small_true : (e : Expr) → small e ≡ true → IsSmall e
+pub small_true : (e : Expr) → small e ≡ true → IsSmall e
 small_true e h =
     let p = both (nat_le (nodes_of e) MOST_EXPRESSION_NODES) (nat_le (depth_of e) MOST_EXPRESSION_DEPTH) h in
     record { nodes = leb-true _ _ p.0; depth = leb-true _ _ p.1 }
 
-small_false : (e : Expr) → small e ≡ false → IsSmall e → ⊥
+pub small_false : (e : Expr) → small e ≡ false → IsSmall e → ⊥
 small_false e h s =
     let p = le_true (nodes_of e) MOST_EXPRESSION_NODES s.nodes in
     let q = le_true (depth_of e) MOST_EXPRESSION_DEPTH s.depth in
     let r : small e ≡ true = ap (λ b. b && nat_le (depth_of e) MOST_EXPRESSION_DEPTH) p ∙ q in
     cc
 
+pub small_so : (e : Expr) → IsSmall e → small e ≡ true
+small_so e s = by (small e) refl
+  where
+    by : (b : Bool) → small e ≡ b → b ≡ true
+    by true h = refl
+    by false h = absurd (small_false e h s)
+
 module _ (bytes : List ℕ) (within : length bytes ≤ 1024) where
-  spelled_by : (e : Expr) → outcome (length bytes) start (lexemes bytes) ≡ Ok e → IsSpelled bytes e
+  pub spelled_by : (e : Expr) → outcome (length bytes) start (lexemes bytes) ≡ Ok e → IsSpelled bytes e
   spelled_by e h = subst (Tells bytes) h (told bytes)
 
-  text_by : (e : Expr) → outcome (length bytes) start (lexemes bytes) ≡ Ok e → small e ≡ true → IsText bytes e
+  pub text_by : (e : Expr) → outcome (length bytes) start (lexemes bytes) ≡ Ok e → small e ≡ true → IsText bytes e
   text_by e h s = record { within = within; spelled = spelled_by e h; small = small_true e s }
 
   pub fault_by : (f : ExprFail) → Told (Err f) (outcome (length bytes) start (lexemes bytes)) → Answers bytes (Err f)

@@ -2,17 +2,20 @@
 use Rattle.std.proofs.Common.{◌≡◌, ℕ, List, [], ◌∷◌, ◌++◌, Option, Some, None, refl, ap, ◌∙◌, arith}
 use Rattle.db_model.specs.declared.expression.Expr.{Expr}
 use Rattle.db_model.specs.declared.expression.Expr.TheVariants as expr
-use Rattle.expr_text.specs.declared.machine.Frame.TheVariants as frame
+use Rattle.expr_text.specs.declared.machine.Begun.{Begun}
+use Rattle.expr_text.specs.declared.machine.Begun.TheVariants as begun
 use Rattle.expr_text.specs.declared.machine.Mode.{Mode}
 use Rattle.expr_text.specs.declared.machine.Mode.TheVariants as mode
+use Rattle.expr_text.specs.declared.machine.Next.TheVariants as next
+use Rattle.expr_text.specs.declared.machine.Wanted.TheVariants as wanted_as
 use Rattle.expr_text.specs.declared.token.Call.{Call}
 use Rattle.expr_text.specs.declared.token.Call.TheVariants as call
 use Rattle.expr_text.specs.declared.token.Token.{Token}
 use Rattle.expr_text.specs.declared.token.Token.TheVariants as token
-use Rattle.expr_text.specs.Tokens.{joined_by}
+use Rattle.expr_text.specs.declared.state.State.{State}
 use Rattle.expr_text.specs.Grammar.{Spells}
 use Rattle.expr_text.specs.Refusal.{Viable}
-use Rattle.expr_text.specs.Machine.{Stack, State, at, start, join, close, comma, colon, close_bracket, step_from, alone, fed, ended}
+use Rattle.expr_text.specs.Machine.{Stack, at, frame, start, operated, sliced, join, close, comma, colon, close_bracket, step_from, alone, fed, ended}
 use Rattle.expr_text.proofs.Levels.{sides, join_operand, join_negated}
 use Rattle.expr_text.proofs.Followed.{followed}
 use Rattle.expr_text.proofs.Accepted.{accepted}
@@ -26,53 +29,65 @@ closing_call call.ToBytes ts = token.Comma ∷ token.Number 0 ∷ token.Close �
 closing_call call.HasText ts = token.Comma ∷ token.Text [] ∷ token.Close ∷ ts
 
 -- behind an expression
+abbrev closing_of : Begun → List Token → List Token
+closing_of (begun.Operand o) ts = ts
+closing_of begun.Negated ts = ts
+closing_of begun.Parenthesis ts = token.Close ∷ ts
+closing_of begun.Start ts = token.Colon ∷ token.Number 0 ∷ token.CloseBracket ∷ ts
+closing_of begun.Length ts = token.CloseBracket ∷ ts
+closing_of (begun.Argument f) ts = closing_call f ts
+closing_of (begun.Key table renew) ts = token.Close ∷ ts
+
 abbrev closing : Stack → List Token
 closing [] = []
-closing (frame.Operand o a ∷ k) = closing k
-closing (frame.Negated ∷ k) = closing k
-closing (frame.Parenthesis ∷ k) = token.Close ∷ closing k
-closing (frame.Start b ∷ k) = token.Colon ∷ token.Number 0 ∷ token.CloseBracket ∷ closing k
-closing (frame.Length b from ∷ k) = token.CloseBracket ∷ closing k
-closing (frame.Argument f ∷ k) = closing_call f (closing k)
-closing (frame.Key table renew keys ∷ k) = token.Close ∷ closing k
+closing (f ∷ k) = closing_of f.kind (closing k)
 
 abbrev Ends : Option State → List Token → Type 0
 Ends s ts = (e : Expr) × (ended (fed s ts) ≡ Some e)
 
 -- what joins to (e, k) is ended by what closes k
-closes : (k : Stack) (e u : Expr) (above : Stack) → join 1 u above ≡ join 1 e k → Ends (at (mode.Has u) above) (closing k)
-closes [] e u above q = (e, ap alone q)
-closes (frame.Operand o a ∷ k) e u above q =
+abbrev Closes : Stack → Type 0
+Closes k = (e u : Expr) (above : Stack) → join 1 u above ≡ join 1 e k → Ends (at (mode.Behind next.Any u) above) (closing k)
+
+-- what is made of e in front of k ends as k does
+made : (k : Stack) → Closes k → (e : Expr) → Ends (at (mode.Behind next.Any e) k) (closing k)
+made k closes e = closes e e k refl
+
+closes_in : (b : Begun) (parts : List Expr) (k : Stack) → Closes k → Closes (frame b parts ∷ k)
+closes_in (begun.Operand o) parts k closes e u above q =
     let s = sides o in
-    closes k (joined_by o a e) u above (q ∙ join_operand 1 o a e k s.some)
-closes (frame.Negated ∷ k) e u above q = closes k (expr.Not e) u above (q ∙ join_negated 1 e k (omega arith))
-closes (frame.Parenthesis ∷ k) e u above q =
-    let r = closes k e e k refl in
+    closes (operated o parts e) u above (q ∙ join_operand 1 o parts e k s.some)
+closes_in begun.Negated parts k closes e u above q = closes (expr.Not e) u above (q ∙ join_negated 1 parts e k (omega arith))
+closes_in begun.Parenthesis parts k closes e u above q =
+    let r = made k closes e in
     (r.0, ap (λ j. ended (fed (close j.value j.stack) (closing k))) q ∙ r.1)
-closes (frame.Start b ∷ k) e u above q =
-    let r = closes k (expr.Slice b e (expr.Number 0)) (expr.Slice b e (expr.Number 0)) k refl in
+closes_in begun.Start parts k closes e u above q =
+    let r = made k closes (sliced (parts ++ e ∷ []) (expr.Number 0)) in
     (r.0, ap (λ j. ended (fed (colon j.value j.stack) (token.Number 0 ∷ token.CloseBracket ∷ closing k))) q ∙ r.1)
-closes (frame.Length b from ∷ k) e u above q =
-    let r = closes k (expr.Slice b from e) (expr.Slice b from e) k refl in
+closes_in begun.Length parts k closes e u above q =
+    let r = made k closes (sliced parts e) in
     (r.0, ap (λ j. ended (fed (close_bracket j.value j.stack) (closing k))) q ∙ r.1)
-closes (frame.Argument call.ToNumber ∷ k) e u above q =
-    let r = closes k (expr.ToNumber e) (expr.ToNumber e) k refl in
+closes_in (begun.Argument call.ToNumber) parts k closes e u above q =
+    let r = made k closes (expr.ToNumber e) in
     (r.0, ap (λ j. ended (fed (close j.value j.stack) (closing k))) q ∙ r.1)
-closes (frame.Argument call.LengthOf ∷ k) e u above q =
-    let r = closes k (expr.LengthOf e) (expr.LengthOf e) k refl in
+closes_in (begun.Argument call.LengthOf) parts k closes e u above q =
+    let r = made k closes (expr.LengthOf e) in
     (r.0, ap (λ j. ended (fed (close j.value j.stack) (closing k))) q ∙ r.1)
-closes (frame.Argument call.ToBytes ∷ k) e u above q =
-    let r = closes k (expr.ToBytes e 0) (expr.ToBytes e 0) k refl in
+closes_in (begun.Argument call.ToBytes) parts k closes e u above q =
+    let r = made k closes (expr.ToBytes e 0) in
     (r.0, ap (λ j. ended (fed (comma j.value j.stack) (token.Number 0 ∷ token.Close ∷ closing k))) q ∙ r.1)
-closes (frame.Argument call.HasText ∷ k) e u above q =
-    let r = closes k (expr.HasText e []) (expr.HasText e []) k refl in
+closes_in (begun.Argument call.HasText) parts k closes e u above q =
+    let r = made k closes (expr.HasText e []) in
     (r.0, ap (λ j. ended (fed (comma j.value j.stack) (token.Text [] ∷ token.Close ∷ closing k))) q ∙ r.1)
-closes (frame.Key table renew keys ∷ k) e u above q =
-    let look = expr.LookUp table renew (keys ++ e ∷ []) in
-    let r = closes k look look k refl in
+closes_in (begun.Key table renew) parts k closes e u above q =
+    let r = made k closes (expr.LookUp table renew (parts ++ e ∷ [])) in
     (r.0, ap (λ j. ended (fed (close j.value j.stack) (closing k))) q ∙ r.1)
 
-closed : (e : Expr) (k : Stack) → Ends (at (mode.Has e) k) (closing k)
+closes : (k : Stack) → Closes k
+closes [] e u above q = (e, ap alone q)
+closes (f ∷ k) e u above q = closes_in f.kind f.parts k (closes k) e u above q
+
+closed : (e : Expr) (k : Stack) → Ends (at (mode.Behind next.Any e) k) (closing k)
 closed e k = closes k e e k refl
 
 abbrev Finish : Option State → Type 0
@@ -82,17 +97,17 @@ abbrev a_name : List ℕ
 a_name = 97 ∷ []
 
 finish_in : (m : Mode) (k : Stack) → Finish (at m k)
-finish_in mode.Wants k = (token.Number 0 ∷ closing k, closed (expr.Number 0) k)
-finish_in (mode.Has e) k = (closing k, closed e k)
-finish_in (mode.CallOpens f) k = (token.Open ∷ token.Number 0 ∷ closing (frame.Argument f ∷ k), closed (expr.Number 0) (frame.Argument f ∷ k))
-finish_in mode.PresentOpens k = (token.Open ∷ token.Name a_name ∷ token.Close ∷ closing k, closed (expr.IsPresent a_name) k)
-finish_in mode.PresentName k = (token.Name a_name ∷ token.Close ∷ closing k, closed (expr.IsPresent a_name) k)
-finish_in (mode.LookUpOpens renew) k = (token.Open ∷ token.Name a_name ∷ token.Close ∷ closing k, closed (expr.LookUp a_name renew []) k)
-finish_in (mode.TableName renew) k = (token.Name a_name ∷ token.Close ∷ closing k, closed (expr.LookUp a_name renew []) k)
+finish_in (mode.Wants wanted_as.Expression) k = (token.Number 0 ∷ closing k, closed (expr.Number 0) k)
+finish_in (mode.Behind next.Any e) k = (closing k, closed e k)
+finish_in (mode.Wants (wanted_as.CallOpens f)) k = (token.Open ∷ token.Number 0 ∷ closing (frame (begun.Argument f) [] ∷ k), closed (expr.Number 0) (frame (begun.Argument f) [] ∷ k))
+finish_in (mode.Wants wanted_as.PresentOpens) k = (token.Open ∷ token.Name a_name ∷ token.Close ∷ closing k, closed (expr.IsPresent a_name) k)
+finish_in (mode.Wants wanted_as.PresentName) k = (token.Name a_name ∷ token.Close ∷ closing k, closed (expr.IsPresent a_name) k)
+finish_in (mode.Wants (wanted_as.LookUpOpens renew)) k = (token.Open ∷ token.Name a_name ∷ token.Close ∷ closing k, closed (expr.LookUp a_name renew []) k)
+finish_in (mode.Wants (wanted_as.TableName renew)) k = (token.Name a_name ∷ token.Close ∷ closing k, closed (expr.LookUp a_name renew []) k)
 finish_in (mode.Keys table renew keys) k = (token.Close ∷ closing k, closed (expr.LookUp table renew keys) k)
-finish_in (mode.Size e) k = (token.Number 0 ∷ token.Close ∷ closing k, closed (expr.ToBytes e 0) k)
-finish_in (mode.Searched e) k = (token.Text [] ∷ token.Close ∷ closing k, closed (expr.HasText e []) k)
-finish_in (mode.Closes e) k = (token.Close ∷ closing k, closed e k)
+finish_in (mode.Behind next.Size e) k = (token.Number 0 ∷ token.Close ∷ closing k, closed (expr.ToBytes e 0) k)
+finish_in (mode.Behind next.Searched e) k = (token.Text [] ∷ token.Close ∷ closing k, closed (expr.HasText e []) k)
+finish_in (mode.Behind next.Closes e) k = (token.Close ∷ closing k, closed e k)
 
 finishes : (s : State) → (more : List Token) × (e : Expr) × (ended (fed (Some s) more) ≡ Some e)
 finishes s = let f = finish_in s.mode s.stack in (f.0, f.1.0, f.1.1)

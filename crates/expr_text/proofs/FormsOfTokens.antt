@@ -3,19 +3,20 @@ use Rattle.std.proofs.Common.{◌≡◌, ◌≤◌, ◌<◌, ◌+◌, ◌*◌, �
 use Rattle.std.proofs.lemmas.Bool.{cond_both, and_parts, leb-true}
 use Rattle.std.proofs.lemmas.Bool.Decides.{nat_tests}
 use Rattle.std.specs.Char.{digit_value, is_ascii_digit, is_ascii_hexdigit}
-use Rattle.std.specs.Prelude.{if◌then◌else◌, ◌&&◌, ◌||◌, nat_le, nat_lt, bytes_eq, codes, Option, Some, None}
+use Rattle.std.specs.Prelude.{if◌then◌else◌, ◌&&◌, ◌||◌, nat_le, nat_lt, Option, Some, None}
 use Rattle.db_model.specs.declared.expression.Operator.TheVariants as op
+use Rattle.db_model.specs.declared.naming.ReservedWord.{ReservedWord}
+use Rattle.db_model.specs.declared.naming.ReservedWord.TheVariants as reserved_word
 use Rattle.db_model.specs.declared.limits.TheConstants.{GREATEST_NUMBER}
 use Rattle.db_model.specs.Forms.{is_between}
-use Rattle.db_model.specs.Name.{begins_name, continues_name, is_name}
+use Rattle.db_model.specs.Name.{begins_name, continues_name, is_name, reserved}
 use Rattle.expr_text.specs.declared.lexeme.Lexeme.{Lexeme}
 use Rattle.expr_text.specs.declared.lexeme.Lexeme.TheVariants as lexeme
 use Rattle.expr_text.specs.declared.lexeme.Scanned.{Scanned}
 use Rattle.expr_text.specs.declared.token.BinaryOp.TheVariants as binary
-use Rattle.expr_text.specs.declared.token.Call.TheVariants as call
 use Rattle.expr_text.specs.declared.token.Token.{Token}
 use Rattle.expr_text.specs.declared.token.Token.TheVariants as token
-use Rattle.expr_text.specs.Lexing.{scanned, one_of, run, follows, value_from, number_or_fault, numeral, hex_run, number, operator_word, function_word, or_else, word, protocol, column, variable, plain, escape, high, low, sign_of, equality, two_or_one, sign, first, front_of, is_space, is_number, Placed, lexed, AreTokens}
+use Rattle.expr_text.specs.Lexing.{scanned, one_of, run, follows, value_from, number_or_fault, numeral, hex_run, number, token_of, token_of_word, word, protocol, column, variable, plain, escape, high, low, sign_of, equality, two_or_one, sign, first, front_of, is_space, is_number, Placed, lexed, AreTokens}
 use Rattle.expr_text.proofs.QuotedInText.{AreBytes}
 
 abbrev pub IsFormed : Token → Type 0
@@ -69,40 +70,34 @@ numbers bs =
 
 -- ---- words and names
 
-operator_words : (w : List ℕ) → FineOption (operator_word w)
-unfolding operator_word
-operator_words w =
-    pick (bytes_eq w (codes "or")) (token.Operator binary.Or) _ tt
-    (pick (bytes_eq w (codes "and")) (token.Operator binary.And) _ tt
-    (pick (bytes_eq w (codes "not")) token.Not _ tt
-    (pick (bytes_eq w (codes "lt")) (token.Operator (binary.Plain op.Lt)) _ tt
-    (pick (bytes_eq w (codes "le")) (token.Operator (binary.Plain op.Le)) _ tt
-    (pick (bytes_eq w (codes "gt")) (token.Operator (binary.Plain op.Gt)) _ tt
-    (pick (bytes_eq w (codes "ge")) (token.Operator (binary.Plain op.Ge)) _ tt
-    (pick (bytes_eq w (codes "mod")) (token.Operator (binary.Plain op.Mod)) _ tt
-    (pick (bytes_eq w (codes "bitwand")) (token.Operator (binary.Plain op.BitAnd)) _ tt
-    (pick (bytes_eq w (codes "bitwor")) (token.Operator (binary.Plain op.BitOr)) None tt tt)))))))))
+tokens_of : (w : ReservedWord) → IsFormed (token_of w)
+tokens_of reserved_word.Or = tt
+tokens_of reserved_word.And = tt
+tokens_of reserved_word.Not = tt
+tokens_of reserved_word.Lt = tt
+tokens_of reserved_word.Le = tt
+tokens_of reserved_word.Gt = tt
+tokens_of reserved_word.Ge = tt
+tokens_of reserved_word.Mod = tt
+tokens_of reserved_word.BitAnd = tt
+tokens_of reserved_word.BitOr = tt
+tokens_of reserved_word.ToNumber = tt
+tokens_of reserved_word.LengthOf = tt
+tokens_of reserved_word.ToBytes = tt
+tokens_of reserved_word.HasText = tt
+tokens_of reserved_word.IsPresent = tt
+tokens_of reserved_word.LookUp = tt
+tokens_of reserved_word.RenewingLookUp = tt
 
-function_words : (w : List ℕ) → FineOption (function_word w)
-unfolding function_word
-function_words w =
-    pick (bytes_eq w (codes "buf2int")) (token.Call call.ToNumber) _ tt
-    (pick (bytes_eq w (codes "buflen")) (token.Call call.LengthOf) _ tt
-    (pick (bytes_eq w (codes "int2buf")) (token.Call call.ToBytes) _ tt
-    (pick (bytes_eq w (codes "hasstring")) (token.Call call.HasText) _ tt
-    (pick (bytes_eq w (codes "ispresent")) token.IsPresent _ tt
-    (pick (bytes_eq w (codes "checklookuptable")) (token.LookUp false) _ tt
-    (pick (bytes_eq w (codes "checkupdatelookuptable")) (token.LookUp true) None tt tt))))))
-
-either : (o p : Option Token) → FineOption o → FineOption p → FineOption (or_else o p)
-either None p h k = k
-either (Some t) p h k = h
+token_of_words : (o : Option ReservedWord) → FineOption (token_of_word o)
+token_of_words None = tt
+token_of_words (Some w) = tokens_of w
 
 words : (w : List ℕ) → FineScanned (word w)
 unfolding word
 words w =
-    fine_one (if is_name w then Some (token.Name w) else or_else (operator_word w) (function_word w)) (length w)
-    (cond_both (is_name w) (Some (token.Name w)) (or_else (operator_word w) (function_word w)) FineOption (λ t. t) (λ _. either (operator_word w) (function_word w) (operator_words w) (function_words w)))
+    fine_one (if is_name w then Some (token.Name w) else token_of_word (reserved w)) (length w)
+    (cond_both (is_name w) (Some (token.Name w)) (token_of_word (reserved w)) FineOption (λ t. t) (λ _. token_of_words (reserved w)))
 
 protocols : (name : List ℕ) → FineScanned (protocol name)
 unfolding protocol
@@ -211,12 +206,12 @@ firsts b bs =
 fronts : (glued : Bool) (b : ℕ) (bs : List ℕ) → FineScanned (front_of glued b bs)
 fronts glued b bs = cond_both (glued && begins_name b) (scanned lexeme.Nothing 1) (first b bs) FineScanned (λ _. tt) (λ _. firsts b bs)
 
-token_of : (l : Lexeme) (t : Token) → Fine l → l ≡ lexeme.Token t → IsFormed t
-token_of l t h e = subst Fine e h
+fine_token : (l : Lexeme) (t : Token) → Fine l → l ≡ lexeme.Token t → IsFormed t
+fine_token l t h e = subst Fine e h
 
 one_more : (p : Placed) (ps : List Placed) (ts : List Token) → Fine p.lexeme → ((us : List Token) → AreTokens ps us → AreFormed us) → AreTokens (p ∷ ps) ts → AreFormed ts
 one_more p ps [] h k are = absurd are
-one_more p ps (t ∷ ts) h k are = (token_of p.lexeme t h are.0, k ts are.1)
+one_more p ps (t ∷ ts) h k are = (fine_token p.lexeme t h are.0, k ts are.1)
 
 pub formed : (bs : List ℕ) (at skip : ℕ) (glued : Bool) (ts : List Token) → AreTokens (lexed at skip glued bs) ts → AreFormed ts
 unfolding lexed

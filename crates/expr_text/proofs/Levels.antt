@@ -1,15 +1,16 @@
 -- Levels of operators, and what joins at a level.
-use Rattle.std.proofs.Common.{◌≡◌, ◌≢◌, ◌≤◌, ◌<◌, ℕ, suc, true, false, nat_le, if◌then◌else◌, ◌==◌, [], ◌∷◌, refl, ap, arith}
+use Rattle.std.proofs.Common.{◌≡◌, ◌≢◌, ◌≤◌, ◌<◌, ℕ, suc, true, false, nat_le, if◌then◌else◌, ◌==◌, List, [], ◌∷◌, refl, ap, arith}
 use Rattle.std.proofs.lemmas.Bool.Decides.{nat_tests}
 use Rattle.db_model.specs.declared.expression.Expr.{Expr}
 use Rattle.db_model.specs.declared.expression.Expr.TheVariants as expr
 use Rattle.db_model.specs.declared.expression.Operator.{Operator}
 use Rattle.db_model.specs.declared.expression.Operator.TheVariants as op
-use Rattle.expr_text.specs.declared.machine.Frame.TheVariants as frame
+use Rattle.expr_text.specs.declared.machine.Begun.{Begun}
+use Rattle.expr_text.specs.declared.machine.Begun.TheVariants as begun
 use Rattle.expr_text.specs.declared.token.BinaryOp.{BinaryOp}
 use Rattle.expr_text.specs.declared.token.BinaryOp.TheVariants as binary_op
-use Rattle.expr_text.specs.Tokens.{plain_level, level_of, left_level_of, joined_by}
-use Rattle.expr_text.specs.Machine.{Stack, joined, wanted, join}
+use Rattle.expr_text.specs.Tokens.{plain_level, level_of, left_level_of}
+use Rattle.expr_text.specs.Machine.{Stack, frame, joined, wanted_by, wanted, operated, built, binds, join}
 
 plain_bounds : (o : Operator) → (4 ≤ plain_level o) × (plain_level o ≤ 6)
 plain_bounds op.Add = (omega arith, omega arith)
@@ -55,40 +56,37 @@ pub le_false : (m n : ℕ) → n < m → nat_le m n ≡ false
 le_false m n h = grind (arith, nat_tests)
 
 -- nothing ends at a level that is wanted
+stays : (l : ℕ) (b : Begun) → wanted_by b ≤ l → l ≢ 3 → binds l b ≡ false
+stays l (begun.Operand o) h ne = let q : suc (level_of o) ≤ l = h in le_false l (level_of o) (omega arith)
+stays l begun.Negated h ne = let q : 3 ≤ l = h in le_false l 3 (omega arith)
+stays l begun.Parenthesis h ne = refl
+stays l begun.Start h ne = refl
+stays l begun.Length h ne = refl
+stays l (begun.Argument f) h ne = refl
+stays l (begun.Key table renew) h ne = refl
+
 pub join_stays : (l : ℕ) (e : Expr) (k : Stack) → wanted k ≤ l → l ≢ 3 → join l e k ≡ joined e k
 join_stays l e [] h ne = refl
-join_stays l e (frame.Operand o a ∷ k) h ne =
-    let q : suc (level_of o) ≤ l = h in
-    let f : nat_le l (level_of o) ≡ false = le_false l (level_of o) (omega arith) in
-    ap (λ b. if b then join l (joined_by o a e) k else joined e (frame.Operand o a ∷ k)) f
-join_stays l e (frame.Negated ∷ k) h ne =
-    let q : 3 ≤ l = h in
-    let f : nat_le l 3 ≡ false = le_false l 3 (omega arith) in
-    ap (λ b. if b then join l (expr.Not e) k else joined e (frame.Negated ∷ k)) f
-join_stays l e (frame.Parenthesis ∷ k) h ne = refl
-join_stays l e (frame.Start b ∷ k) h ne = refl
-join_stays l e (frame.Length b from ∷ k) h ne = refl
-join_stays l e (frame.Argument f ∷ k) h ne = refl
-join_stays l e (frame.Key table renew keys ∷ k) h ne = refl
+join_stays l e (f ∷ k) h ne = ap (λ b. if b then join l (built f.kind f.parts e) k else joined e (f ∷ k)) (stays l f.kind h ne)
 
 -- nothing ends before a slice
+slice_first : (b : Begun) → binds 7 b ≡ false
+slice_first (begun.Operand o) = let s = sides o in le_false 7 (level_of o) (omega (arith, s.most))
+slice_first begun.Negated = refl
+slice_first begun.Parenthesis = refl
+slice_first begun.Start = refl
+slice_first begun.Length = refl
+slice_first (begun.Argument f) = refl
+slice_first (begun.Key table renew) = refl
+
 pub join_slice : (e : Expr) (k : Stack) → join 7 e k ≡ joined e k
 join_slice e [] = refl
-join_slice e (frame.Operand o a ∷ k) =
-    let s = sides o in
-    let f : nat_le 7 (level_of o) ≡ false = le_false 7 (level_of o) (omega (arith, s.most)) in
-    ap (λ b. if b then join 7 (joined_by o a e) k else joined e (frame.Operand o a ∷ k)) f
-join_slice e (frame.Negated ∷ k) = refl
-join_slice e (frame.Parenthesis ∷ k) = refl
-join_slice e (frame.Start b ∷ k) = refl
-join_slice e (frame.Length b from ∷ k) = refl
-join_slice e (frame.Argument f ∷ k) = refl
-join_slice e (frame.Key table renew keys ∷ k) = refl
+join_slice e (f ∷ k) = ap (λ b. if b then join 7 (built f.kind f.parts e) k else joined e (f ∷ k)) (slice_first f.kind)
 
-pub join_operand : (m : ℕ) (o : BinaryOp) (a e : Expr) (k : Stack) → m ≤ level_of o → join m e (frame.Operand o a ∷ k) ≡ join m (joined_by o a e) k
-join_operand m o a e k h =
-    ap (λ b. if b then join m (joined_by o a e) k else joined e (frame.Operand o a ∷ k)) (le_true m (level_of o) h)
+pub join_operand : (m : ℕ) (o : BinaryOp) (parts : List Expr) (e : Expr) (k : Stack) → m ≤ level_of o → join m e (frame (begun.Operand o) parts ∷ k) ≡ join m (operated o parts e) k
+join_operand m o parts e k h =
+    ap (λ b. if b then join m (operated o parts e) k else joined e (frame (begun.Operand o) parts ∷ k)) (le_true m (level_of o) h)
 
-pub join_negated : (m : ℕ) (e : Expr) (k : Stack) → m ≤ 3 → join m e (frame.Negated ∷ k) ≡ join m (expr.Not e) k
-join_negated m e k h =
-    ap (λ b. if b then join m (expr.Not e) k else joined e (frame.Negated ∷ k)) (le_true m 3 h)
+pub join_negated : (m : ℕ) (parts : List Expr) (e : Expr) (k : Stack) → m ≤ 3 → join m e (frame begun.Negated parts ∷ k) ≡ join m (expr.Not e) k
+join_negated m parts e k h =
+    ap (λ b. if b then join m (expr.Not e) k else joined e (frame begun.Negated parts ∷ k)) (le_true m 3 h)

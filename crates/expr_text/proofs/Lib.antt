@@ -8,10 +8,12 @@ pub mod Levels
 pub mod NamesInText
 pub mod NumbersInText
 pub mod Outcomes
+pub mod Parsed
 pub mod Pieces
 pub mod PrintedForms
 pub mod PrintedTokens
 pub mod QuotedInText
 pub mod ReadsBack
 pub mod Skipping
+pub mod WellFormed
 pub mod Words

@@ -6,13 +6,13 @@ use Rattle.std.proofs.lemmas.Bool.Decides.{nat_tests}
 use Rattle.std.specs.Char.{is_ascii_digit}
 use Rattle.std.specs.List.{list_all}
 use Rattle.std.specs.Prelude.{if◌then◌else◌, ◌&&◌, not, codes, nat_le, Some, None}
-use Rattle.db_model.specs.Name.{begins_name, continues_name, is_word, is_reserved, is_name, is_operator_word, is_function_word}
+use Rattle.db_model.specs.Name.{begins_name, continues_name, is_word, is_reserved, is_name, reserved, spelling}
 use Rattle.expr_text.specs.declared.lexeme.Lexeme.TheVariants as lexeme
 use Rattle.expr_text.specs.declared.lexeme.Scanned.{Scanned}
 use Rattle.expr_text.specs.declared.token.Call.TheVariants as call
 use Rattle.expr_text.specs.declared.token.Token.{Token}
 use Rattle.expr_text.specs.declared.token.Token.TheVariants as token
-use Rattle.expr_text.specs.Lexing.{scanned, one_of, or_else, first, number, word, protocol, column, variable, operator_word, function_word, follows, is_space, is_number, run}
+use Rattle.expr_text.specs.Lexing.{scanned, one_of, token_of_word, first, number, word, protocol, column, variable, follows, is_space, is_number, run}
 use Rattle.expr_text.specs.Printing.{protocol_text, variable_text, column_text, look_up_name}
 use Rattle.expr_text.proofs.Pieces.{Boundary, Lexes, behind, one_token, Stops, run_is, stops_name}
 
@@ -38,27 +38,27 @@ word_piece : (b : ℕ) (w : List ℕ) (t : Token) → begins_name b ≡ true →
 word_piece b w t h k e q rest us s are = one_token b w t rest us (not_space b h) (first_word b w rest h k s ∙ e) (behind t rest us q are)
 
 pub number_call_piece : Lexes Boundary (codes "buf2int") (token.Call call.ToNumber ∷ [])
-unfolding word operator_word function_word is_name is_operator_word is_function_word
+unfolding word is_name reserved spelling
 number_call_piece = word_piece 98 (codes "uf2int") (token.Call call.ToNumber) refl refl refl refl
 
 pub length_call_piece : Lexes Boundary (codes "buflen") (token.Call call.LengthOf ∷ [])
-unfolding word operator_word function_word is_name is_operator_word is_function_word
+unfolding word is_name reserved spelling
 length_call_piece = word_piece 98 (codes "uflen") (token.Call call.LengthOf) refl refl refl refl
 
 pub bytes_call_piece : Lexes Boundary (codes "int2buf") (token.Call call.ToBytes ∷ [])
-unfolding word operator_word function_word is_name is_operator_word is_function_word
+unfolding word is_name reserved spelling
 bytes_call_piece = word_piece 105 (codes "nt2buf") (token.Call call.ToBytes) refl refl refl refl
 
 pub text_call_piece : Lexes Boundary (codes "hasstring") (token.Call call.HasText ∷ [])
-unfolding word operator_word function_word is_name is_operator_word is_function_word
+unfolding word is_name reserved spelling
 text_call_piece = word_piece 104 (codes "asstring") (token.Call call.HasText) refl refl refl refl
 
 pub presence_piece : Lexes Boundary (codes "ispresent") (token.IsPresent ∷ [])
-unfolding word operator_word function_word is_name is_operator_word is_function_word
+unfolding word is_name reserved spelling
 presence_piece = word_piece 105 (codes "spresent") token.IsPresent refl refl refl refl
 
 pub look_up_piece : (renew : Bool) → Lexes Boundary (look_up_name renew) (token.LookUp renew ∷ [])
-unfolding word operator_word function_word is_name is_operator_word is_function_word look_up_name
+unfolding word is_name reserved spelling look_up_name
 look_up_piece true = word_piece 99 (codes "heckupdatelookuptable") (token.LookUp true) refl refl refl refl
 look_up_piece false = word_piece 99 (codes "hecklookuptable") (token.LookUp false) refl refl refl refl
 
@@ -89,7 +89,7 @@ all_continue (b ∷ w) h =
 
 word_name : (w : List ℕ) → is_name w ≡ true → word w ≡ scanned (lexeme.Token (token.Name w)) (length w)
 unfolding word
-word_name w h = ap (λ o. one_of o (length w)) (cond-true (is_name w) (Some (token.Name w)) (or_else (operator_word w) (function_word w)) h)
+word_name w h = ap (λ o. one_of o (length w)) (cond-true (is_name w) (Some (token.Name w)) (token_of_word (reserved w)) h)
 
 pub name_piece : (name : List ℕ) → is_name name ≡ true → Lexes Boundary name (token.Name name ∷ [])
 name_piece [] h = absurd (nothing_unnamed h)

@@ -3,10 +3,11 @@ use Rattle.std.proofs.Common.{◌≡◌, ℕ, List, [], ◌∷◌, ◌++◌, len
 use Rattle.db_model.specs.declared.expression.Expr.{Expr}
 use Rattle.expr_text.specs.declared.lexeme.Lexeme.{Lexeme}
 use Rattle.expr_text.specs.declared.lexeme.Lexeme.TheVariants as lexeme
+use Rattle.expr_text.specs.declared.state.State.{State}
 use Rattle.expr_text.specs.declared.token.Token.{Token}
 use Rattle.expr_text.specs.declared.token.Token.TheVariants as token
 use Rattle.expr_text.specs.Lexing.{Placed, lexemes, AreTokens}
-use Rattle.expr_text.specs.Machine.{State, start, step, fed, ended}
+use Rattle.expr_text.specs.Machine.{start, step, fed, ended}
 use Rattle.expr_text.specs.Outcome.{Answer, or_fault, after, at_end, outcome}
 use Rattle.expr_text.specs.Refusal.{Viable, IsSpelled, IsSmall, IsText, IsFaulty, IsFaultyAt, IsFaultyFrom, IsRefused, too_long, faulty, too_large}
 use Rattle.expr_text.proofs.Accepted.{accepted}

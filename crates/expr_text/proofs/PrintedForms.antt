@@ -5,9 +5,10 @@ use Rattle.std.proofs.lemmas.List.{append_assoc}
 use Rattle.db_model.specs.declared.expression.Expr as expr
 use Rattle.db_model.specs.declared.expression.Expr.{Expr}
 use Rattle.db_model.specs.declared.expression.Operator.{Operator}
+use Rattle.db_model.specs.declared.naming.ReservedWord.TheVariants as word
 use Rattle.db_model.specs.Names.{Text}
 use Rattle.db_model.proofs.Layers.{fold_not, fold_and, fold_or, fold_binary, fold_slice, fold_to_number, fold_length_of, fold_to_bytes, fold_has_text, fold_look_up}
-use Rattle.expr_text.specs.Printing.{Printed, compound, simple, operand, arguments, negation, conjunction, disjunction, operator_text, slice_text, number_call, length_call, bytes_call, text_call, look_up_call, printed_step, printing}
+use Rattle.expr_text.specs.Printing.{Printed, spaced, compound, simple, operand, arguments, negation, conjunction, disjunction, operator_text, slice_text, number_call, length_call, bytes_call, text_call, look_up_call, printed_step, printing}
 
 pub printing_not : (a : Expr) → printing (expr.Not a) ≡ compound (negation (operand (printing a)))
 printing_not a = fold_not Printed printed_step a
@@ -62,13 +63,13 @@ then_pieces t0 t1 t2 p q h k = k ∙ (ap (λ t. t ++ q) h ∙ append_assoc t0 p 
 pub three_pieces : {T E : Type 0} (r : Result T E) (t0 t1 t2 t3 a s b u d v : List ℕ) → t1 ≡ t0 ++ (a ++ s) → t2 ≡ t1 ++ (b ++ u) → OnOk r (t3 ≡ t2 ++ (d ++ v)) → OnOk r (t3 ≡ t0 ++ (a ++ (s ++ (b ++ (u ++ (d ++ v))))))
 three_pieces r t0 t1 t2 t3 a s b u d v h i k = on_ok r (λ e. then_pieces t0 t1 t3 (a ++ s) (b ++ (u ++ (d ++ v))) h (then_pieces t1 t2 t3 (b ++ u) (d ++ v) i e ∙ ap (λ t. t1 ++ t) (append_assoc b u (d ++ v))) ∙ ap (λ t. t0 ++ t) (append_assoc a s (b ++ (u ++ (d ++ v))))) k
 
-pub adds_conjunction : {T E : Type 0} (r : Result T E) (t0 t1 t2 a b : List ℕ) → t1 ≡ t0 ++ (a ++ codes " and ") → OnOk r (t2 ≡ t1 ++ b) → OnOk r (t2 ≡ t0 ++ conjunction a b)
+pub adds_conjunction : {T E : Type 0} (r : Result T E) (t0 t1 t2 a b : List ℕ) → t1 ≡ t0 ++ (a ++ spaced word.And) → OnOk r (t2 ≡ t1 ++ b) → OnOk r (t2 ≡ t0 ++ conjunction a b)
 unfolding conjunction
-adds_conjunction r t0 t1 t2 a b h k = two_pieces r t0 t1 t2 a (codes " and ") b h k
+adds_conjunction r t0 t1 t2 a b h k = two_pieces r t0 t1 t2 a (spaced word.And) b h k
 
-pub adds_disjunction : {T E : Type 0} (r : Result T E) (t0 t1 t2 a b : List ℕ) → t1 ≡ t0 ++ (a ++ codes " or ") → OnOk r (t2 ≡ t1 ++ b) → OnOk r (t2 ≡ t0 ++ disjunction a b)
+pub adds_disjunction : {T E : Type 0} (r : Result T E) (t0 t1 t2 a b : List ℕ) → t1 ≡ t0 ++ (a ++ spaced word.Or) → OnOk r (t2 ≡ t1 ++ b) → OnOk r (t2 ≡ t0 ++ disjunction a b)
 unfolding disjunction
-adds_disjunction r t0 t1 t2 a b h k = two_pieces r t0 t1 t2 a (codes " or ") b h k
+adds_disjunction r t0 t1 t2 a b h k = two_pieces r t0 t1 t2 a (spaced word.Or) b h k
 
 pub adds_slice : {T E : Type 0} (r : Result T E) (t0 t1 t2 t3 a b d : List ℕ) → t1 ≡ t0 ++ (a ++ codes "[") → t2 ≡ t1 ++ (b ++ codes ":") → OnOk r (t3 ≡ t2 ++ (d ++ codes "]")) → OnOk r (t3 ≡ t0 ++ slice_text a b d)
 unfolding slice_text

@@ -8,7 +8,7 @@ use Rattle.db_model.specs.declared.expression.Expr.TheVariants as expr
 use Rattle.db_model.specs.declared.expression.Operator.{Operator}
 use Rattle.db_model.specs.declared.expression.Operator.TheVariants as op
 use Rattle.db_model.specs.declared.limits.TheConstants.{GREATEST_NUMBER}
-use Rattle.db_model.specs.Name.{continues_name, is_name}
+use Rattle.db_model.specs.Name.{continues_name, is_name, spelling}
 use Rattle.expr_text.specs.declared.token.BinaryOp.{BinaryOp}
 use Rattle.expr_text.specs.declared.token.BinaryOp.TheVariants as binary_op
 use Rattle.expr_text.specs.declared.token.Call.TheVariants as call
@@ -120,7 +120,7 @@ column_read table name h k = one (expr.Column table name) (column_text table nam
 -- ---- operations
 
 pub not_read : (a : Expr) (bytes : List ℕ) → IsOperand a bytes → IsRead (expr.Not a) (compound (negation bytes))
-unfolding negation
+unfolding negation spelling
 not_read a bytes r = record {
   tokens = token.Not ∷ r.tokens;
   reads = λ rest. lower 1 3 (omega arith) (negated (lower 3 7 (omega arith) (r.reads rest)));
@@ -139,18 +139,18 @@ operation o a b left sign right x y s f = record {
 }
 
 pub and_read : (a b : Expr) (left right : List ℕ) → IsOperand a left → IsOperand b right → IsRead (expr.And a b) (compound (conjunction left right))
-unfolding conjunction
+unfolding conjunction spelling
 and_read a b left right x y = operation binary_op.And a b left (codes " and ") right x y (λ rest. starts 0x20 refl refl (codes "and " ++ rest)) and_piece
 
 pub or_read : (a b : Expr) (left right : List ℕ) → IsOperand a left → IsOperand b right → IsRead (expr.Or a b) (compound (disjunction left right))
-unfolding disjunction
+unfolding disjunction spelling
 or_read a b left right x y = operation binary_op.Or a b left (codes " or ") right x y (λ rest. starts 0x20 refl refl (codes "or " ++ rest)) or_piece
 
 no_point : ◌≡◌ {A = ℕ} 0x20 0x2e → ⊥
 no_point = eqb-false 0x20 0x2e refl
 
 spaced : (o : Operator) (rest : List ℕ) → Boundary (operator_text o ++ rest)
-unfolding operator_text
+unfolding operator_text spelling
 spaced op.Add rest = (refl, no_point)
 spaced op.Sub rest = (refl, no_point)
 spaced op.Mul rest = (refl, no_point)
@@ -192,7 +192,7 @@ slice_read b from count base p q x y z =
     }
 
 pub to_number_read : (a : Expr) (p : Printed) → IsRead a p → IsRead (expr.ToNumber a) (simple (number_call p.bytes))
-unfolding number_call
+unfolding number_call spelling
 to_number_read a p r = record {
   tokens = token.Call call.ToNumber ∷ token.Open ∷ (r.tokens ++ token.Close ∷ []);
   reads = λ rest. tighter (to_number (subst (λ ts. Reads 1 a ts (token.Close ∷ rest)) (sym (closed r.tokens rest)) (argument a p r (token.Close ∷ rest))));
@@ -200,7 +200,7 @@ to_number_read a p r = record {
 }
 
 pub length_of_read : (a : Expr) (p : Printed) → IsRead a p → IsRead (expr.LengthOf a) (simple (length_call p.bytes))
-unfolding length_call
+unfolding length_call spelling
 length_of_read a p r = record {
   tokens = token.Call call.LengthOf ∷ token.Open ∷ (r.tokens ++ token.Close ∷ []);
   reads = λ rest. tighter (length_of (subst (λ ts. Reads 1 a ts (token.Close ∷ rest)) (sym (closed r.tokens rest)) (argument a p r (token.Close ∷ rest))));
@@ -215,7 +215,7 @@ pair_lexes : (a b : List ℕ) (ts : List Token) (t : Token) → Lexes Boundary a
 pair_lexes a b ts t f g = between Boundary a (codes ", ") b ts (t ∷ []) token.Comma f (λ rest. starts 0x2c refl refl (0x20 ∷ rest)) comma_piece g
 
 pub to_bytes_read : (a : Expr) (size : ℕ) (p : Printed) → IsRead a p → size ≤ GREATEST_NUMBER → IsRead (expr.ToBytes a size) (simple (bytes_call p.bytes size))
-unfolding bytes_call
+unfolding bytes_call spelling
 to_bytes_read a size p r h = record {
   tokens = token.Call call.ToBytes ∷ token.Open ∷ ((r.tokens ++ token.Comma ∷ token.Number size ∷ []) ++ token.Close ∷ []);
   reads = λ rest.
@@ -226,7 +226,7 @@ to_bytes_read a size p r h = record {
 }
 
 pub has_text_read : (a : Expr) (b : List ℕ) (p : Printed) → IsRead a p → AreBytes b → IsRead (expr.HasText a b) (simple (text_call p.bytes b))
-unfolding text_call
+unfolding text_call spelling
 has_text_read a b p r h = record {
   tokens = token.Call call.HasText ∷ token.Open ∷ ((r.tokens ++ token.Comma ∷ token.Text b ∷ []) ++ token.Close ∷ []);
   reads = λ rest.
@@ -237,7 +237,7 @@ has_text_read a b p r h = record {
 }
 
 pub is_present_read : (name : List ℕ) → is_name name ≡ true → IsRead (expr.IsPresent name) (simple (presence_call name))
-unfolding presence_call
+unfolding presence_call spelling
 is_present_read name h = record {
   tokens = token.IsPresent ∷ token.Open ∷ token.Name name ∷ token.Close ∷ [];
   reads = λ rest. tighter is_present;

@@ -1,16 +1,14 @@
 -- How the lexemes of a text go on behind a space and behind a lexeme.
-use Rattle.std.proofs.Common.{◌≡◌, ◌≤◌, ◌<◌, ◌+◌, ℕ, zero, suc, pred, Bool, true, false, if◌then◌else◌, List, [], ◌∷◌, length, drop, Some, None, Result, Ok, Err, refl, sym, ap, subst, ◌∙◌, arith}
+use Rattle.std.proofs.Common.{◌≡◌, ◌≤◌, ◌<◌, ◌+◌, ℕ, zero, suc, pred, Bool, true, false, if◌then◌else◌, List, [], ◌∷◌, length, drop, Some, Result, Ok, Err, refl, sym, ap, subst, ◌∙◌, arith}
 use Rattle.db_model.specs.declared.expression.Expr.{Expr}
 use Rattle.expr_text.specs.declared.fail.ExprFail.{ExprFail}
 use Rattle.expr_text.specs.declared.fail.ExprFail.TheVariants as fail
 use Rattle.expr_text.specs.declared.lexeme.Lexeme.{Lexeme}
-use Rattle.expr_text.specs.declared.lexeme.Lexeme.TheVariants as lexeme
 use Rattle.expr_text.specs.declared.lexeme.Scanned.{Scanned}
-use Rattle.expr_text.specs.declared.machine.Mode.{Mode}
-use Rattle.expr_text.specs.declared.token.Token.{Token}
+use Rattle.expr_text.specs.declared.state.State.{State}
 use Rattle.expr_text.specs.Lexing.{Placed, is_number, front_of, lexed}
-use Rattle.expr_text.specs.Machine.{Stack, State, end_in}
-use Rattle.expr_text.specs.Outcome.{Answer, after, at_end, outcome, state, Told, Handled, front, begins_with_space, Advanced, fault_code, token_in}
+use Rattle.expr_text.specs.Machine.{ended}
+use Rattle.expr_text.specs.Outcome.{Answer, after, at_end, outcome, Told, Handled, front, begins_with_space, Advanced}
 
 skipped : (at k : ℕ) (glued : Bool) (bs : List ℕ) → lexed at k glued bs ≡ lexed (at + k) 0 glued (drop k bs)
 unfolding lexed
@@ -43,9 +41,9 @@ at_lexeme at glued (b ∷ bs) h some size =
 
 -- ---- what the parser's answers say of the outcome
 
-pub advanced_space : (n here : ℕ) (glued : Bool) (m : Mode) (k : Stack) (rest : List ℕ) → 0 < length rest → begins_with_space rest ≡ true
-    → Advanced n here glued (state m k) rest (Ok (record { mode = m; size = 1; glued = false })) k
-advanced_space n here glued m k rest some h = (omega arith, omega arith, ap (outcome n (state m k)) (at_space here glued rest h))
+pub advanced_space : (n here : ℕ) (glued : Bool) (s : State) (rest : List ℕ) → 0 < length rest → begins_with_space rest ≡ true
+    → Advanced n here glued s rest (Ok (record { size = 1; glued = false })) s
+advanced_space n here glued s rest some h = (omega arith, omega arith, ap (outcome n s) (at_space here glued rest h))
 
 module _ (n here : ℕ) (glued : Bool) (s : State) (rest : List ℕ) (space : begins_with_space rest ≡ false) (some : 0 < length rest) where
   -- the outcome by the lexeme at the front
@@ -54,44 +52,23 @@ module _ (n here : ℕ) (glued : Bool) (s : State) (rest : List ℕ) (space : be
   unfolding outcome
   by_lexeme l e size = rw e (ap (outcome n s) (at_lexeme here glued rest space some (rw e at size)))
 
-  pub advanced_lexeme : (l : Scanned) → l ≡ front glued rest → 0 < l.size → l.size ≤ length rest → (m : Mode) (k : Stack) → Handled n here s l.lexeme (Ok m) k
-      → Advanced n here glued s rest (Ok (record { mode = m; size = l.size; glued = is_number l.lexeme })) k
-  advanced_lexeme l e size within m k h = (size, within, by_lexeme l e size ∙ h (λ s'. outcome n s' (lexed (here + l.size) 0 (is_number l.lexeme) (drop l.size rest))))
+  pub advanced_lexeme : (l : Scanned) → l ≡ front glued rest → 0 < l.size → l.size ≤ length rest → (u : Unit {0}) (z : State) → Handled n here s l.lexeme (Ok u) z
+      → Advanced n here glued s rest (Ok (record { size = l.size; glued = is_number l.lexeme })) z
+  advanced_lexeme l e size within u z h = (size, within, by_lexeme l e size ∙ h (λ s'. outcome n s' (lexed (here + l.size) 0 (is_number l.lexeme) (drop l.size rest))))
 
-  pub advanced_fault : (l : Scanned) → l ≡ front glued rest → 0 < l.size → (f : ExprFail) (k : Stack) → Handled n here s l.lexeme (Err f) k
-      → Advanced n here glued s rest (Err f) k
-  advanced_fault l e size (fail.Fault at code) k h = by_lexeme l e size ∙ h (λ s'. outcome n s' (lexed (here + l.size) 0 (is_number l.lexeme) (drop l.size rest)))
-  advanced_fault l e size fail.NoMemory k h = tt
+  pub advanced_fault : (l : Scanned) → l ≡ front glued rest → 0 < l.size → (f : ExprFail) (z : State) → Handled n here s l.lexeme (Err f) z
+      → Advanced n here glued s rest (Err f) z
+  advanced_fault l e size (fail.Fault at code) z h = by_lexeme l e size ∙ h (λ s'. outcome n s' (lexed (here + l.size) 0 (is_number l.lexeme) (drop l.size rest)))
+  advanced_fault l e size fail.NoMemory z h = tt
 
 -- a fault of what is left is the whole's
-pub told_fault : (n here : ℕ) (glued : Bool) (s : State) (rest : List ℕ) (a : Answer) (f : ExprFail) (k : Stack) → Advanced n here glued s rest (Err f) k → outcome n s (lexed here 0 glued rest) ≡ a → Told (Err f) a
-told_fault n here glued s rest a (fail.Fault at code) k h e = sym e ∙ h
-told_fault n here glued s rest a fail.NoMemory k h e = tt
+pub told_fault : (n here : ℕ) (glued : Bool) (s : State) (rest : List ℕ) (a : Answer) (f : ExprFail) (z : State) → Advanced n here glued s rest (Err f) z → outcome n s (lexed here 0 glued rest) ≡ a → Told (Err f) a
+told_fault n here glued s rest a (fail.Fault at code) z h e = sym e ∙ h
+told_fault n here glued s rest a fail.NoMemory z h e = tt
 
 -- what is told where nothing is left is told of the whole
-pub told_end : (n at : ℕ) (glued : Bool) (m : Mode) (k : Stack) (rest : List ℕ) (a : Answer) (r : Result Expr ExprFail) → length rest ≤ 0
-    → outcome n (state m k) (lexed at 0 glued rest) ≡ a → Told r (at_end n (end_in m k)) → Told r a
+pub told_end : (n at : ℕ) (glued : Bool) (s : State) (rest : List ℕ) (a : Answer) (r : Result Expr ExprFail) → length rest ≤ 0
+    → outcome n s (lexed at 0 glued rest) ≡ a → Told r (at_end n (ended (Some s))) → Told r a
 unfolding outcome lexed
-told_end n at glued m k [] a r h e t = subst (Told r) e t
-told_end n at glued m k (b ∷ bs) a r h e t = absurd (omega arith)
-
--- ---- a lexeme by what its functions say of it
-
-module _ (n at : ℕ) (s : State) (k : Stack) where
-  pub handled_fault : (l : Lexeme) (code : ℕ) → fault_code l ≡ Some code → Handled n at s l (Err (fail.Fault at code)) k
-  handled_fault (lexeme.Token t) code h = cc
-  handled_fault lexeme.Nothing code h = λ next. let e : 1 ≡ code = cc in ap (λ x. Err (at, x)) e
-  handled_fault lexeme.TooGreat code h = λ next. let e : 3 ≡ code = cc in ap (λ x. Err (at, x)) e
-  handled_fault lexeme.Unfinished code h = cc
-
-  pub handled_token : (l : Lexeme) (t : Token) (r : Result Mode ExprFail) → token_in l ≡ Some t → Handled n at s (lexeme.Token t) r k → Handled n at s l r k
-  handled_token (lexeme.Token u) t r h d = let e : t ≡ u = cc in subst (λ x. Handled n at s (lexeme.Token x) r k) e d
-  handled_token lexeme.Nothing t r h d = cc
-  handled_token lexeme.TooGreat t r h d = cc
-  handled_token lexeme.Unfinished t r h d = cc
-
-  pub handled_text : (l : Lexeme) (r : Result Mode ExprFail) → ((code : ℕ) → fault_code l ≡ Some code → ⊥) → token_in l ≡ None → Handled n at s lexeme.Unfinished r k → Handled n at s l r k
-  handled_text (lexeme.Token t) r h q d = cc
-  handled_text lexeme.Nothing r h q d = absurd (h 1 refl)
-  handled_text lexeme.TooGreat r h q d = absurd (h 3 refl)
-  handled_text lexeme.Unfinished r h q d = d
+told_end n at glued s [] a r h e t = subst (Told r) e t
+told_end n at glued s (b ∷ bs) a r h e t = absurd (omega arith)

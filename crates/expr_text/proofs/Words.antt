@@ -1,14 +1,14 @@
 -- The signs and the words of a canonical text.
 use Rattle.std.proofs.Common.{◌≡◌, ℕ, Bool, true, false, List, [], ◌∷◌, refl, sym, subst}
 use Rattle.std.specs.Prelude.{if◌then◌else◌, codes, Some, None}
-use Rattle.db_model.specs.Name.{is_name, is_operator_word, is_function_word}
+use Rattle.db_model.specs.Name.{is_name, reserved, spelling}
 use Rattle.db_model.specs.declared.expression.Operator.{Operator}
 use Rattle.db_model.specs.declared.expression.Operator.TheVariants as op
 use Rattle.expr_text.specs.declared.lexeme.Lexeme.TheVariants as lexeme
 use Rattle.expr_text.specs.declared.token.BinaryOp.TheVariants as binary
 use Rattle.expr_text.specs.declared.token.Token.{Token}
 use Rattle.expr_text.specs.declared.token.Token.TheVariants as token
-use Rattle.expr_text.specs.Lexing.{scanned, one_of, lexed, first, word, operator_word, follows, sign, sign_of, equality, two_or_one}
+use Rattle.expr_text.specs.Lexing.{scanned, one_of, lexed, first, word, follows, sign, sign_of, equality, two_or_one}
 use Rattle.expr_text.specs.Printing.{operator_text}
 use Rattle.expr_text.proofs.Pieces.{Anything, Lexes, one_token}
 
@@ -18,15 +18,15 @@ abbrev Piece : List ℕ → Token → Type 0
 Piece bs t = Lexes Anything bs (t ∷ [])
 
 pub and_piece : Piece (codes " and ") (token.Operator binary.And)
-unfolding lexed first word operator_word is_name is_operator_word is_function_word
+unfolding lexed first word is_name reserved spelling
 and_piece rest us g h at = (refl, h _)
 
 pub or_piece : Piece (codes " or ") (token.Operator binary.Or)
-unfolding lexed first word operator_word is_name is_operator_word is_function_word
+unfolding lexed first word is_name reserved spelling
 or_piece rest us g h at = (refl, h _)
 
 pub not_piece : Piece (codes "not ") token.Not
-unfolding lexed first word operator_word is_name is_operator_word is_function_word
+unfolding lexed first word is_name reserved spelling
 not_piece rest us g h at = (refl, h _)
 
 pub comma_piece : Piece (codes ", ") token.Comma
@@ -34,7 +34,7 @@ unfolding lexed first sign sign_of equality
 comma_piece rest us g h at = (refl, h _)
 
 pub operator_piece : (o : Operator) → Piece (operator_text o) (token.Operator (binary.Plain o))
-unfolding lexed first word operator_word is_name is_operator_word is_function_word sign sign_of equality operator_text
+unfolding lexed first word is_name reserved spelling sign sign_of equality operator_text
 operator_piece op.Add rest us g h at = (refl, h _)
 operator_piece op.Sub rest us g h at = (refl, h _)
 operator_piece op.Mul rest us g h at = (refl, h _)

@@ -1,12 +1,14 @@
 -- The tokens of a text, each with its place, and what stands where no token does.
-use Rattle.std.specs.Prelude.{◌≡◌, ℕ, zero, suc, pred, ◌+◌, ◌*◌, Bool, true, false, ◌&&◌, ◌||◌, ◌==◌, nat_lt, nat_le, if◌then◌else◌, List, [], ◌∷◌, ◌++◌, length, take, drop, bytes_eq, codes, Option, Some, None}
+use Rattle.std.specs.Prelude.{◌≡◌, ℕ, zero, suc, pred, ◌+◌, ◌*◌, Bool, true, false, ◌&&◌, ◌||◌, ◌==◌, nat_lt, nat_le, if◌then◌else◌, List, [], ◌∷◌, ◌++◌, length, take, drop, Option, Some, None}
 use Rattle.std.specs.Char.{digit_value, is_ascii_digit, is_ascii_hexdigit}
 use Rattle.std.specs.List.{prefix_len}
 use Rattle.db_model.specs.declared.expression.Operator.{Operator}
 use Rattle.db_model.specs.declared.expression.Operator.TheVariants as op
+use Rattle.db_model.specs.declared.naming.ReservedWord.{ReservedWord}
+use Rattle.db_model.specs.declared.naming.ReservedWord.TheVariants as reserved_word
 use Rattle.db_model.specs.declared.limits.TheConstants.{GREATEST_NUMBER}
 use Rattle.db_model.specs.Forms.{is_between}
-use Rattle.db_model.specs.Name.{begins_name, continues_name, is_name}
+use Rattle.db_model.specs.Name.{begins_name, continues_name, is_name, reserved}
 use Rattle.expr_text.specs.declared.lexeme.Lexeme.{Lexeme}
 use Rattle.expr_text.specs.declared.lexeme.Lexeme.TheVariants as lexeme
 use Rattle.expr_text.specs.declared.lexeme.Scanned.{Scanned}
@@ -59,40 +61,33 @@ number bs =
 
 -- ---- words and names
 
--- the words that are operators
-unfoldable pub operator_word : List ℕ → Option Token
-operator_word w =
-    if bytes_eq w (codes "or") then Some (token.Operator binary.Or)
-    else (if bytes_eq w (codes "and") then Some (token.Operator binary.And)
-    else (if bytes_eq w (codes "not") then Some token.Not
-    else (if bytes_eq w (codes "lt") then Some (token.Operator (binary.Plain op.Lt))
-    else (if bytes_eq w (codes "le") then Some (token.Operator (binary.Plain op.Le))
-    else (if bytes_eq w (codes "gt") then Some (token.Operator (binary.Plain op.Gt))
-    else (if bytes_eq w (codes "ge") then Some (token.Operator (binary.Plain op.Ge))
-    else (if bytes_eq w (codes "mod") then Some (token.Operator (binary.Plain op.Mod))
-    else (if bytes_eq w (codes "bitwand") then Some (token.Operator (binary.Plain op.BitAnd))
-    else (if bytes_eq w (codes "bitwor") then Some (token.Operator (binary.Plain op.BitOr))
-    else None)))))))))
+-- the token of a reserved word
+abbrev pub token_of : ReservedWord → Token
+token_of reserved_word.Or = token.Operator binary.Or
+token_of reserved_word.And = token.Operator binary.And
+token_of reserved_word.Not = token.Not
+token_of reserved_word.Lt = token.Operator (binary.Plain op.Lt)
+token_of reserved_word.Le = token.Operator (binary.Plain op.Le)
+token_of reserved_word.Gt = token.Operator (binary.Plain op.Gt)
+token_of reserved_word.Ge = token.Operator (binary.Plain op.Ge)
+token_of reserved_word.Mod = token.Operator (binary.Plain op.Mod)
+token_of reserved_word.BitAnd = token.Operator (binary.Plain op.BitAnd)
+token_of reserved_word.BitOr = token.Operator (binary.Plain op.BitOr)
+token_of reserved_word.ToNumber = token.Call call.ToNumber
+token_of reserved_word.LengthOf = token.Call call.LengthOf
+token_of reserved_word.ToBytes = token.Call call.ToBytes
+token_of reserved_word.HasText = token.Call call.HasText
+token_of reserved_word.IsPresent = token.IsPresent
+token_of reserved_word.LookUp = token.LookUp false
+token_of reserved_word.RenewingLookUp = token.LookUp true
 
--- the names of the functions
-unfoldable pub function_word : List ℕ → Option Token
-function_word w =
-    if bytes_eq w (codes "buf2int") then Some (token.Call call.ToNumber)
-    else (if bytes_eq w (codes "buflen") then Some (token.Call call.LengthOf)
-    else (if bytes_eq w (codes "int2buf") then Some (token.Call call.ToBytes)
-    else (if bytes_eq w (codes "hasstring") then Some (token.Call call.HasText)
-    else (if bytes_eq w (codes "ispresent") then Some token.IsPresent
-    else (if bytes_eq w (codes "checklookuptable") then Some (token.LookUp false)
-    else (if bytes_eq w (codes "checkupdatelookuptable") then Some (token.LookUp true)
-    else None))))))
-
-abbrev pub or_else : Option Token → Option Token → Option Token
-or_else None other = other
-or_else (Some t) other = Some t
+abbrev pub token_of_word : Option ReservedWord → Option Token
+token_of_word None = None
+token_of_word (Some w) = Some (token_of w)
 
 -- a name, or else a reserved word; a word that is too long is neither
 unfoldable pub word : List ℕ → Scanned
-word w = one_of (if is_name w then Some (token.Name w) else or_else (operator_word w) (function_word w)) (length w)
+word w = one_of (if is_name w then Some (token.Name w) else token_of_word (reserved w)) (length w)
 
 -- `#` with a name right behind it
 unfoldable pub protocol : List ℕ → Scanned

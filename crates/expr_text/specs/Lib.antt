@@ -4,6 +4,7 @@ pub mod Laws
 pub mod Lexing
 pub mod Machine
 pub mod Outcome
+pub mod Parsed
 pub mod Printing
 pub mod Refusal
 pub mod Sizes

@@ -6,11 +6,14 @@ use Rattle.db_model.specs.declared.expression.Expr.{Expr, Expr-F}
 use Rattle.db_model.specs.declared.expression.Expr.TheOpen as layer
 use Rattle.db_model.specs.declared.expression.Operator.{Operator}
 use Rattle.db_model.specs.declared.expression.Operator.TheVariants as op
+use Rattle.db_model.specs.declared.naming.ReservedWord.{ReservedWord}
+use Rattle.db_model.specs.declared.naming.ReservedWord.TheVariants as word
 use Rattle.db_model.specs.Folds.{fold_expr}
-use Rattle.db_model.specs.Forms.{is_between}
+use Rattle.db_model.specs.Forms.{is_between, is_expression}
+use Rattle.db_model.specs.Name.{spelling}
 use Rattle.db_model.specs.Names.{Text}
 use Rattle.expr_text.specs.declared.limits.TheConstants.{MOST_EXPRESSION_BYTES}
-use Rattle.expr_text.specs.Refusal.{IsSpelled, IsSmall, IsText, IsRefused}
+use Rattle.expr_text.specs.Refusal.{IsSpelled, IsText, IsRefused}
 
 -- ---- texts
 
@@ -29,19 +32,23 @@ quoted b = codes "'" ++ (all_escaped b ++ codes "'")
 
 -- ---- operators
 
+-- a word with a space on each side
+abbrev pub spaced : ReservedWord → List ℕ
+spaced w = codes " " ++ (spelling w ++ codes " ")
+
 -- an operator with a space on each side
 unfoldable pub operator_text : Operator → List ℕ
 operator_text op.Add = codes " + "
 operator_text op.Sub = codes " - "
 operator_text op.Mul = codes " * "
 operator_text op.Div = codes " / "
-operator_text op.Mod = codes " mod "
-operator_text op.BitAnd = codes " bitwand "
-operator_text op.BitOr = codes " bitwor "
-operator_text op.Lt = codes " lt "
-operator_text op.Le = codes " le "
-operator_text op.Gt = codes " gt "
-operator_text op.Ge = codes " ge "
+operator_text op.Mod = spaced word.Mod
+operator_text op.BitAnd = spaced word.BitAnd
+operator_text op.BitOr = spaced word.BitOr
+operator_text op.Lt = spaced word.Lt
+operator_text op.Le = spaced word.Le
+operator_text op.Gt = spaced word.Gt
+operator_text op.Ge = spaced word.Ge
 operator_text op.Eq = codes " == "
 operator_text op.Ne = codes " != "
 
@@ -66,8 +73,8 @@ abbrev pub operand : Printed → List ℕ
 operand p = if p.is_compound then in_parentheses p.bytes else p.bytes
 
 unfoldable pub look_up_name : Bool → List ℕ
-look_up_name true = codes "checkupdatelookuptable"
-look_up_name false = codes "checklookuptable"
+look_up_name true = spelling word.RenewingLookUp
+look_up_name false = spelling word.LookUp
 
 -- arguments behind the first one, each behind a comma and a space
 abbrev pub arguments : List Printed → List ℕ
@@ -84,31 +91,31 @@ unfoldable pub column_text : Text → Text → List ℕ
 column_text table column = codes "$" ++ (table ++ (codes "." ++ column))
 
 unfoldable pub negation : List ℕ → List ℕ
-negation a = codes "not " ++ a
+negation a = spelling word.Not ++ (codes " " ++ a)
 
 unfoldable pub conjunction : List ℕ → List ℕ → List ℕ
-conjunction a b = a ++ (codes " and " ++ b)
+conjunction a b = a ++ (spaced word.And ++ b)
 
 unfoldable pub disjunction : List ℕ → List ℕ → List ℕ
-disjunction a b = a ++ (codes " or " ++ b)
+disjunction a b = a ++ (spaced word.Or ++ b)
 
 unfoldable pub slice_text : List ℕ → List ℕ → List ℕ → List ℕ
 slice_text base from count = base ++ (codes "[" ++ (from ++ (codes ":" ++ (count ++ codes "]"))))
 
 unfoldable pub number_call : List ℕ → List ℕ
-number_call a = codes "buf2int" ++ in_parentheses a
+number_call a = spelling word.ToNumber ++ in_parentheses a
 
 unfoldable pub length_call : List ℕ → List ℕ
-length_call a = codes "buflen" ++ in_parentheses a
+length_call a = spelling word.LengthOf ++ in_parentheses a
 
 unfoldable pub bytes_call : List ℕ → ℕ → List ℕ
-bytes_call a size = codes "int2buf" ++ in_parentheses (a ++ (codes ", " ++ decimal size))
+bytes_call a size = spelling word.ToBytes ++ in_parentheses (a ++ (codes ", " ++ decimal size))
 
 unfoldable pub text_call : List ℕ → List ℕ → List ℕ
-text_call a b = codes "hasstring" ++ in_parentheses (a ++ (codes ", " ++ quoted b))
+text_call a b = spelling word.HasText ++ in_parentheses (a ++ (codes ", " ++ quoted b))
 
 unfoldable pub presence_call : Text → List ℕ
-presence_call name = codes "ispresent" ++ in_parentheses name
+presence_call name = spelling word.IsPresent ++ in_parentheses name
 
 unfoldable pub look_up_call : Bool → Text → List ℕ → List ℕ
 look_up_call renew table more = look_up_name renew ++ in_parentheses (table ++ more)
@@ -141,22 +148,21 @@ printed e = (printing e).bytes
 
 -- ---- what it says of texts
 
--- the grammar gives the expression
-pub record IsOfGrammar (e : Expr) : Type 0 where
-  pub bytes : List ℕ
-  pub spelled : IsSpelled bytes e
-
--- the canonical text of an expression of the grammar spells it
+-- the canonical text of a well-formed expression spells it
 abbrev pub ReadsBack : Type 0
-ReadsBack = (e : Expr) → IsOfGrammar e → IsSpelled (printed e) e
+ReadsBack = (e : Expr) → is_expression e ≡ true → IsSpelled (printed e) e
 
--- no two expressions of the grammar have one canonical text
+-- so does that of each expression that some text spells, however large it is
+abbrev pub ReadsBackSpelled : Type 0
+ReadsBackSpelled = (e : Expr) (bytes : List ℕ) → IsSpelled bytes e → IsSpelled (printed e) e
+
+-- no two expressions that some text spells have one canonical text
 abbrev pub PrintsApart : Type 0
-PrintsApart = (d e : Expr) → IsOfGrammar d → IsOfGrammar e → printed d ≡ printed e → d ≡ e
+PrintsApart = (d e : Expr) (bytes others : List ℕ) → IsSpelled bytes d → IsSpelled others e → printed d ≡ printed e → d ≡ e
 
--- one that is small enough is the text's expression where the text isn't too long, and a longer text is refused
+-- where it isn't too long it is the text of a well-formed expression, and a longer text is refused
 abbrev pub PrintsTexts : Type 0
-PrintsTexts = (e : Expr) → IsOfGrammar e → IsSmall e → length (printed e) ≤ MOST_EXPRESSION_BYTES → IsText (printed e) e
+PrintsTexts = (e : Expr) → is_expression e ≡ true → length (printed e) ≤ MOST_EXPRESSION_BYTES → IsText (printed e) e
 
 abbrev pub RefusesLong : Type 0
 RefusesLong = (e : Expr) → MOST_EXPRESSION_BYTES < length (printed e) → IsRefused (printed e) 0 4

@@ -1,4 +1,4 @@
--- Whether an expression is small, as the parser counts. No public clause names it.
+-- Whether an expression is small, as the parser counts. Only `parsed` goes by it.
 use Rattle.std.specs.Prelude.{ℕ, min, Bool, ◌&&◌, nat_le}
 use Rattle.db_model.specs.declared.expression.Expr.{Expr}
 use Rattle.db_model.specs.declared.limits.TheConstants.{MOST_EXPRESSION_NODES, MOST_EXPRESSION_DEPTH}

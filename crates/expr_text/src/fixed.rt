@@ -2,7 +2,7 @@ ghost use Rattle.std.specs.Prelude.{◌≡◌, IfOk};
 ghost use Rattle.expr_text.specs.Machine;
 ghost use Rattle.expr_text.specs.Machine.{now};
 
-use crate::machine::Mode;
+use crate::machine::{Mode, Next, Wanted};
 use crate::token::Token;
 use db_model::{Expr, NoMemory};
 use sqlite_items::{Boxed, Items};
@@ -13,7 +13,7 @@ pub fn open_present(token: Token) -> Option<Mode>
     ensures { (k : Machine.Stack) → now result k ≡ Machine.open_present k token }
 {
     match token {
-        Token::Open => Some(Mode::PresentName),
+        Token::Open => Some(Mode::Wants(Wanted::PresentName)),
         _ => None,
     }
 }
@@ -23,7 +23,7 @@ pub fn present_name(token: Token) -> Option<Mode>
     ensures { (k : Machine.Stack) → now result k ≡ Machine.present_name k token }
 {
     match token {
-        Token::Name(name) => Some(Mode::Closes(Expr::IsPresent(name))),
+        Token::Name(name) => Some(Mode::Behind(Next::Closes, Expr::IsPresent(name))),
         _ => None,
     }
 }
@@ -33,7 +33,7 @@ pub fn open_look_up(renew: bool, token: Token) -> Option<Mode>
     ensures { (k : Machine.Stack) → now result k ≡ Machine.open_look_up renew k token }
 {
     match token {
-        Token::Open => Some(Mode::TableName { renew }),
+        Token::Open => Some(Mode::Wants(Wanted::TableName { renew })),
         _ => None,
     }
 }
@@ -59,7 +59,7 @@ pub fn size(alloc: Global, e: Expr, token: Token) -> Result<Option<Mode>, NoMemo
     match token {
         Token::Number(size) => {
             let value = Boxed::new(alloc, e)?;
-            Ok(Some(Mode::Closes(Expr::ToBytes { value, size })))
+            Ok(Some(Mode::Behind(Next::Closes, Expr::ToBytes { value, size })))
         }
         _ => Ok(None),
     }
@@ -72,7 +72,7 @@ pub fn searched(alloc: Global, e: Expr, token: Token) -> Result<Option<Mode>, No
     match token {
         Token::Text(text) => {
             let within = Boxed::new(alloc, e)?;
-            Ok(Some(Mode::Closes(Expr::HasText { within, text })))
+            Ok(Some(Mode::Behind(Next::Closes, Expr::HasText { within, text })))
         }
         _ => Ok(None),
     }
@@ -83,7 +83,7 @@ pub fn closes(e: Expr, token: Token) -> Option<Mode>
     ensures { (k : Machine.Stack) → now result k ≡ Machine.closes e k token }
 {
     match token {
-        Token::Close => Some(Mode::Has(e)),
+        Token::Close => Some(Mode::Behind(Next::Any, e)),
         _ => None,
     }
 }

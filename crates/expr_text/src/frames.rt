@@ -1,13 +1,13 @@
 ghost use Rattle.std.specs.Prelude.{◌≡◌, [], ◌∷◌, OnOk, IfSome, IfNone};
 ghost use Rattle.expr_text.specs.Machine;
 
-use crate::machine::Frame;
+use crate::machine::{Begun, Frame};
 use db_model::NoMemory;
 use std::alloc::Global;
 use std::marker::Model;
 
 /// What is open, seen as a list with the innermost first.
-#[derive(Debug, Drop)]
+#[derive(Drop)]
 pub struct Frames {
     frames: Vec<Frame>,
 }
@@ -25,31 +25,31 @@ impl Model for Frames {
     ghost view = { λ s. reverse s.frames.items };
 }
 
-fn wanted_by(frame: &Frame) -> u32
-    ensures { result ≡ Machine.wanted_by frame.now }
+fn wanted_by(kind: &Begun) -> u32
+    ensures { result ≡ Machine.wanted_by kind.now }
 {
-    match frame {
-        Frame::Operand(operator, _) => operator.level() + 1,
-        Frame::Negated => 3,
-        Frame::Parenthesis
-        | Frame::Start(_)
-        | Frame::Length(_, _)
-        | Frame::Argument(_)
-        | Frame::Key { .. } => 1,
+    match kind {
+        Begun::Operand(operator) => operator.level() + 1,
+        Begun::Negated => 3,
+        Begun::Parenthesis
+        | Begun::Start
+        | Begun::Length
+        | Begun::Argument(_)
+        | Begun::Key { .. } => 1,
     }
 }
 
-fn binds(level: u32, frame: &Frame) -> bool
-    ensures { result ≡ Machine.binds level frame.now }
+fn binds(level: u32, kind: &Begun) -> bool
+    ensures { result ≡ Machine.binds level kind.now }
 {
-    match frame {
-        Frame::Operand(operator, _) => level <= operator.level(),
-        Frame::Negated => level <= 3,
-        Frame::Parenthesis
-        | Frame::Start(_)
-        | Frame::Length(_, _)
-        | Frame::Argument(_)
-        | Frame::Key { .. } => false,
+    match kind {
+        Begun::Operand(operator) => level <= operator.level(),
+        Begun::Negated => level <= 3,
+        Begun::Parenthesis
+        | Begun::Start
+        | Begun::Length
+        | Begun::Argument(_)
+        | Begun::Key { .. } => false,
     }
 }
 
@@ -83,7 +83,7 @@ impl Frames {
     {
         match self.frames.last() {
             None => 1,
-            Some(frame) => wanted_by(frame),
+            Some(frame) => wanted_by(&frame.kind),
         }
     }
 
@@ -93,7 +93,7 @@ impl Frames {
     {
         match self.frames.last() {
             None => false,
-            Some(frame) => binds(level, frame),
+            Some(frame) => binds(level, &frame.kind),
         }
     }
 

@@ -4,18 +4,26 @@ ghost use Rattle.expr_text.specs.Machine;
 ghost use Rattle.expr_text.specs.Machine.{joined};
 
 use crate::frames::Frames;
-use crate::machine::Frame;
+use crate::machine::{Begun, Frame};
 use crate::token::BinaryOp;
 use db_model::{Expr, NoMemory};
-use sqlite_items::Boxed;
+use sqlite_items::{Boxed, Items};
 use std::alloc::Global;
+
+/// Two parts of an expression.
+pub fn both(alloc: Global, a: Expr, b: Expr) -> Result<(Boxed<Expr>, Boxed<Expr>), NoMemory>
+    ensures { IfOk result (λ parts. (parts.0 ≡ a) × (parts.1 ≡ b)) }
+{
+    let a = Boxed::new(alloc, a)?;
+    let b = Boxed::new(alloc, b)?;
+    Ok((a, b))
+}
 
 /// What an operator makes of its two operands.
 fn joined_by(alloc: Global, operator: BinaryOp, left: Expr, right: Expr) -> Result<Expr, NoMemory>
     ensures { IfOk result (λ e. e ≡ Tokens.joined_by operator left right) }
 {
-    let left = Boxed::new(alloc, left)?;
-    let right = Boxed::new(alloc, right)?;
+    let (left, right) = both(alloc, left, right)?;
     Ok(match operator {
         BinaryOp::Or => Expr::Or(left, right),
         BinaryOp::And => Expr::And(left, right),
@@ -23,18 +31,34 @@ fn joined_by(alloc: Global, operator: BinaryOp, left: Expr, right: Expr) -> Resu
     })
 }
 
-/// What a frame makes of the expression behind it.
-fn build(alloc: Global, frame: Frame, e: Expr) -> Result<Expr, NoMemory>
-    ensures { IfOk result (λ built. built ≡ Machine.built frame e) }
+/// What an operator makes of the one part before it and the expression behind it.
+fn operated(
+    alloc: Global,
+    operator: BinaryOp,
+    before: Items<Expr>,
+    e: Expr,
+) -> Result<Expr, NoMemory>
+    ensures { IfOk result (λ built. built ≡ Machine.operated operator before e) }
 {
-    match frame {
-        Frame::Operand(operator, left) => joined_by(alloc, operator, left, e),
-        Frame::Negated => Ok(Expr::Not(Boxed::new(alloc, e)?)),
-        Frame::Parenthesis
-        | Frame::Start(_)
-        | Frame::Length(_, _)
-        | Frame::Argument(_)
-        | Frame::Key { .. } => Ok(e),
+    let mut before = before;
+    match before.pop() {
+        Some(left) if before.is_empty() => joined_by(alloc, operator, left, e),
+        _ => Ok(e),
+    }
+}
+
+/// What an operator or a `not` makes of the expression behind it.
+fn build(alloc: Global, frame: Frame, e: Expr) -> Result<Expr, NoMemory>
+    ensures { IfOk result (λ built. built ≡ Machine.built frame.kind frame.parts e) }
+{
+    match frame.kind {
+        Begun::Operand(operator) => operated(alloc, operator, frame.parts, e),
+        Begun::Negated => Ok(Expr::Not(Boxed::new(alloc, e)?)),
+        Begun::Parenthesis
+        | Begun::Start
+        | Begun::Length
+        | Begun::Argument(_)
+        | Begun::Key { .. } => Ok(e),
     }
 }
 

@@ -1,7 +1,7 @@
 use crate::token::Token;
 
 /// What stands at a place of a text where no space stands.
-#[derive(Debug, Drop)]
+#[derive(Drop)]
 pub enum Lexeme {
     Token(Token),
     /// A byte with which no token begins.
@@ -13,7 +13,7 @@ pub enum Lexeme {
 }
 
 /// A lexeme, and how many bytes it has.
-#[derive(Debug, Drop)]
+#[derive(Drop)]
 pub struct Scanned {
     pub lexeme: Lexeme,
     pub size: usize,

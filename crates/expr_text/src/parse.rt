@@ -1,8 +1,9 @@
-ghost use Rattle.std.specs.Prelude.{◌≡◌, ◌≤◌, length};
+ghost use Rattle.std.specs.Prelude.{◌≡◌, ◌≤◌, length, Some};
 ghost use Rattle.expr_text.specs.Lexing.{lexemes};
 ghost use Rattle.expr_text.specs.Machine;
-ghost use Rattle.expr_text.specs.Machine.{start};
+ghost use Rattle.expr_text.specs.Machine.{start, ended};
 ghost use Rattle.expr_text.specs.Answer.{Answers};
+ghost use Rattle.expr_text.specs.Parsed.{IsParsed};
 ghost use Rattle.expr_text.specs.Outcome;
 
 use crate::advance::go_over;
@@ -10,29 +11,58 @@ use crate::fail::ExprFail;
 use crate::frames::Frames;
 use crate::joining::join_up;
 use crate::limits::MOST_EXPRESSION_BYTES;
-use crate::machine::Mode;
+use crate::machine::{Mode, Next, Wanted};
 use crate::sizes::is_small;
+use crate::state::State;
 use db_model::Expr;
 use std::alloc::Global;
+use std::mem;
+
+/// The expression that was read last, where one was.
+fn read(mode: Mode) -> Option<Expr>
+    ensures { result ≡ Machine.read mode }
+{
+    match mode {
+        Mode::Behind(Next::Any, e) => Some(e),
+        Mode::Behind(_, _) | Mode::Wants(_) | Mode::Keys { .. } => None,
+    }
+}
 
 /// The expression, where nothing is open behind it; else the text of `len` bytes ends early.
-fn finish(alloc: Global, mode: Mode, frames: &mut Frames, len: usize) -> Result<Expr, ExprFail>
+fn finish(alloc: Global, state: &mut State, len: usize) -> Result<Expr, ExprFail>
     requires { len ≤ 1024 }
-    ensures { Outcome.Told result (Outcome.at_end len (Machine.end_in mode frames.old)) }
+    ensures { Outcome.Told result (Outcome.at_end len (ended (Some state.old))) }
 {
     let early = ExprFail::Fault {
         at: len as u32,
         code: 2,
     };
-    let Mode::Has(e) = mode else {
+    let Some(e) = read(mem::replace(&mut state.mode, Mode::Wants(Wanted::Expression))) else {
         return Err(early);
     };
-    let whole = join_up(alloc, 1, e, frames)?;
-    if frames.is_empty() {
+    let whole = join_up(alloc, 1, e, &mut state.stack)?;
+    if state.stack.is_empty() {
         Ok(whole)
     } else {
         Err(early)
     }
+}
+
+/// The expression of a text, whatever its size, from the start; or the first fault.
+fn run_from(alloc: Global, state: &mut State, text: &[u8]) -> Result<Expr, ExprFail>
+    requires start { state.old ≡ start }
+    requires bound { length text.now ≤ 1024 }
+    ensures { Outcome.Told result (Outcome.outcome (length text.now) start (lexemes text.now)) }
+{
+    let mut glued = false;
+    let mut rest = text;
+    while rest.len() > 0 {
+        let here = text.len() - rest.len();
+        let next = go_over(alloc, state, rest, here, text.len(), glued)?;
+        glued = next.glued;
+        rest = &rest[next.size..];
+    }
+    finish(alloc, state, text.len())
 }
 
 /// The expression of a text, whatever its size; or the first fault.
@@ -40,18 +70,11 @@ fn run(alloc: Global, text: &[u8]) -> Result<Expr, ExprFail>
     requires { length text.now ≤ 1024 }
     ensures { Outcome.Told result (Outcome.outcome (length text.now) start (lexemes text.now)) }
 {
-    let mut frames = Frames::new(alloc);
-    let mut mode = Mode::Wants;
-    let mut glued = false;
-    let mut rest = text;
-    while rest.len() > 0 {
-        let here = text.len() - rest.len();
-        let next = go_over(alloc, mode, &mut frames, rest, here, text.len(), glued)?;
-        mode = next.mode;
-        glued = next.glued;
-        rest = &rest[next.size..];
-    }
-    finish(alloc, mode, &mut frames, text.len())
+    let mut state = State {
+        mode: Mode::Wants(Wanted::Expression),
+        stack: Frames::new(alloc),
+    };
+    run_from(alloc, &mut state, text)
 }
 
 /// The expression of a text of `len` bytes, unless it has too many nodes or is too deep.
@@ -68,9 +91,8 @@ fn judge(e: Expr, len: usize) -> Result<Expr, ExprFail>
     })
 }
 
-/// The expression that a text spells, within all limits; else the place and the code of the text's first fault.
-/// Works in a loop, with a stack of its own; only the depth of the expression is found by recursion.
-pub fn parse_expr(alloc: Global, text: &[u8]) -> Result<Expr, ExprFail>
+/// The answer to a text.
+fn answer(alloc: Global, text: &[u8]) -> Result<Expr, ExprFail>
     ensures { Answers text.now result }
 {
     if text.len() > MOST_EXPRESSION_BYTES {
@@ -80,4 +102,13 @@ pub fn parse_expr(alloc: Global, text: &[u8]) -> Result<Expr, ExprFail>
         Ok(e) => judge(e, text.len()),
         Err(fail) => Err(fail),
     }
+}
+
+/// The expression that a text spells, within all limits; else the place and the code of the text's first fault.
+/// Works in a loop, with a stack of its own; only the depth of the expression is found by recursion.
+pub fn parse_expr(alloc: Global, text: &[u8]) -> Result<Expr, ExprFail>
+    ensures answer { Answers text.now result }
+    ensures parsed { IsParsed text.now result }
+{
+    answer(alloc, text)
 }

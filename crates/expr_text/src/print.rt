@@ -1,9 +1,10 @@
 ghost use Rattle.std.specs.Prelude.{◌≡◌, ◌++◌, ◌∷◌, [], map, codes, OnOk, IfOk};
 ghost use Rattle.std.specs.Fmt.{decimal};
 ghost use Rattle.hex.specs.Hex.{encode_lower};
+ghost use Rattle.db_model.specs.Name.{spelling};
 ghost use Rattle.expr_text.specs.Printing;
 
-use db_model::{Expr, Name, NoMemory, Operator};
+use db_model::{Expr, Name, NoMemory, Operator, ReservedWord};
 use hex::encode_to_slice;
 use itoa::Buffer;
 use std::alloc::Global;
@@ -30,6 +31,22 @@ fn push_number(text: &mut Vec<u8>, number: u32) -> Result<(), NoMemory>
     ensures { OnOk result (text.new.items ≡ text.old.items ++ decimal number) }
 {
     push(text, Buffer::new().format(number).as_bytes())
+}
+
+/// Adds a reserved word.
+fn push_word(text: &mut Vec<u8>, word: ReservedWord) -> Result<(), NoMemory>
+    ensures { OnOk result (text.new.items ≡ text.old.items ++ spelling word) }
+{
+    push(text, word.spelling())
+}
+
+/// Adds a reserved word with a space on each side.
+fn push_spaced(text: &mut Vec<u8>, word: ReservedWord) -> Result<(), NoMemory>
+    ensures { OnOk result (text.new.items ≡ text.old.items ++ Printing.spaced word) }
+{
+    push(text, b" ")?;
+    push_word(text, word)?;
+    push(text, b" ")
 }
 
 // ---- texts
@@ -91,15 +108,15 @@ fn push_expr(text: &mut Vec<u8>, e: &Expr) -> Result<(), NoMemory>
         Expr::Column { table, column } => push_column(text, table, column),
         Expr::Not(a) => push_negation(text, a.get()),
         Expr::And(a, b) => {
-            push_left(text, a.get(), b" and ")?;
+            push_left_word(text, a.get(), ReservedWord::And)?;
             push_operand(text, b.get())
         }
         Expr::Or(a, b) => {
-            push_left(text, a.get(), b" or ")?;
+            push_left_word(text, a.get(), ReservedWord::Or)?;
             push_operand(text, b.get())
         }
         Expr::Binary(operator, a, b) => {
-            push_left(text, a.get(), operator_text(*operator))?;
+            push_left_operator(text, a.get(), *operator)?;
             push_operand(text, b.get())
         }
         Expr::Slice { base, from, count } => {
@@ -143,6 +160,24 @@ fn push_left(text: &mut Vec<u8>, e: &Expr, behind: &[u8]) -> Result<(), NoMemory
 {
     push_operand(text, e)?;
     push(text, behind)
+}
+
+/// An operand with a reserved word behind it.
+#[cycle(print)]
+fn push_left_word(text: &mut Vec<u8>, e: &Expr, word: ReservedWord) -> Result<(), NoMemory>
+    ensures { OnOk result (text.new.items ≡ text.old.items ++ (Printing.operand (Printing.printing e.now) ++ Printing.spaced word)) }
+{
+    push_operand(text, e)?;
+    push_spaced(text, word)
+}
+
+/// An operand with an operator behind it.
+#[cycle(print)]
+fn push_left_operator(text: &mut Vec<u8>, e: &Expr, operator: Operator) -> Result<(), NoMemory>
+    ensures { OnOk result (text.new.items ≡ text.old.items ++ (Printing.operand (Printing.printing e.now) ++ Printing.operator_text operator)) }
+{
+    push_operand(text, e)?;
+    push_operator(text, operator)
 }
 
 /// An expression with what stands behind it.
@@ -210,29 +245,30 @@ fn push_column(text: &mut Vec<u8>, table: &Name, column: &Name) -> Result<(), No
 fn push_negation(text: &mut Vec<u8>, a: &Expr) -> Result<(), NoMemory>
     ensures { OnOk result (text.new.items ≡ text.old.items ++ Printing.negation (Printing.operand (Printing.printing a.now))) }
 {
-    push(text, b"not ")?;
+    push_word(text, ReservedWord::Not)?;
+    push(text, b" ")?;
     push_operand(text, a)
 }
 
-/// The operator with a space on each side.
+/// Adds an operator with a space on each side.
 #[tactic(auto, unfolding(crate::specs::Printing::operator_text))]
-fn operator_text(operator: Operator) -> &'static [u8]
-    ensures { result.now ≡ Printing.operator_text operator }
+fn push_operator(text: &mut Vec<u8>, operator: Operator) -> Result<(), NoMemory>
+    ensures { OnOk result (text.new.items ≡ text.old.items ++ Printing.operator_text operator) }
 {
     match operator {
-        Operator::Add => b" + ",
-        Operator::Sub => b" - ",
-        Operator::Mul => b" * ",
-        Operator::Div => b" / ",
-        Operator::Mod => b" mod ",
-        Operator::BitAnd => b" bitwand ",
-        Operator::BitOr => b" bitwor ",
-        Operator::Lt => b" lt ",
-        Operator::Le => b" le ",
-        Operator::Gt => b" gt ",
-        Operator::Ge => b" ge ",
-        Operator::Eq => b" == ",
-        Operator::Ne => b" != ",
+        Operator::Add => push(text, b" + "),
+        Operator::Sub => push(text, b" - "),
+        Operator::Mul => push(text, b" * "),
+        Operator::Div => push(text, b" / "),
+        Operator::Mod => push_spaced(text, ReservedWord::Mod),
+        Operator::BitAnd => push_spaced(text, ReservedWord::BitAnd),
+        Operator::BitOr => push_spaced(text, ReservedWord::BitOr),
+        Operator::Lt => push_spaced(text, ReservedWord::Lt),
+        Operator::Le => push_spaced(text, ReservedWord::Le),
+        Operator::Gt => push_spaced(text, ReservedWord::Gt),
+        Operator::Ge => push_spaced(text, ReservedWord::Ge),
+        Operator::Eq => push(text, b" == "),
+        Operator::Ne => push(text, b" != "),
     }
 }
 
@@ -243,7 +279,8 @@ fn operator_text(operator: Operator) -> &'static [u8]
 fn push_number_call(text: &mut Vec<u8>, a: &Expr) -> Result<(), NoMemory>
     ensures { OnOk result (text.new.items ≡ text.old.items ++ Printing.number_call (Printing.printing a.now).bytes) }
 {
-    push(text, b"buf2int(")?;
+    push_word(text, ReservedWord::ToNumber)?;
+    push(text, b"(")?;
     push_expr(text, a)?;
     push(text, b")")
 }
@@ -253,7 +290,8 @@ fn push_number_call(text: &mut Vec<u8>, a: &Expr) -> Result<(), NoMemory>
 fn push_length_call(text: &mut Vec<u8>, a: &Expr) -> Result<(), NoMemory>
     ensures { OnOk result (text.new.items ≡ text.old.items ++ Printing.length_call (Printing.printing a.now).bytes) }
 {
-    push(text, b"buflen(")?;
+    push_word(text, ReservedWord::LengthOf)?;
+    push(text, b"(")?;
     push_expr(text, a)?;
     push(text, b")")
 }
@@ -263,7 +301,8 @@ fn push_length_call(text: &mut Vec<u8>, a: &Expr) -> Result<(), NoMemory>
 fn push_bytes_call(text: &mut Vec<u8>, a: &Expr, size: u32) -> Result<(), NoMemory>
     ensures { OnOk result (text.new.items ≡ text.old.items ++ Printing.bytes_call (Printing.printing a.now).bytes size) }
 {
-    push(text, b"int2buf(")?;
+    push_word(text, ReservedWord::ToBytes)?;
+    push(text, b"(")?;
     push_expr(text, a)?;
     push(text, b", ")?;
     push_number(text, size)?;
@@ -275,7 +314,8 @@ fn push_bytes_call(text: &mut Vec<u8>, a: &Expr, size: u32) -> Result<(), NoMemo
 fn push_text_call(text: &mut Vec<u8>, a: &Expr, wanted: &[u8]) -> Result<(), NoMemory>
     ensures { OnOk result (text.new.items ≡ text.old.items ++ Printing.text_call (Printing.printing a.now).bytes wanted.now) }
 {
-    push(text, b"hasstring(")?;
+    push_word(text, ReservedWord::HasText)?;
+    push(text, b"(")?;
     push_expr(text, a)?;
     push(text, b", ")?;
     push_quoted(text, wanted)?;
@@ -286,7 +326,8 @@ fn push_text_call(text: &mut Vec<u8>, a: &Expr, wanted: &[u8]) -> Result<(), NoM
 fn push_presence_call(text: &mut Vec<u8>, name: &Name) -> Result<(), NoMemory>
     ensures { OnOk result (text.new.items ≡ text.old.items ++ Printing.presence_call name.now) }
 {
-    push(text, b"ispresent(")?;
+    push_word(text, ReservedWord::IsPresent)?;
+    push(text, b"(")?;
     push(text, name.as_slice())?;
     push(text, b")")
 }
@@ -301,7 +342,7 @@ fn push_look_up(
 ) -> Result<(), NoMemory>
     ensures { OnOk result (text.new.items ≡ text.old.items ++ Printing.look_up_call renew table.now (Printing.arguments (map Printing.printing keys.now))) }
 {
-    push(text, look_up_name(renew))?;
+    push_word(text, look_up_word(renew))?;
     push(text, b"(")?;
     push(text, table.as_slice())?;
     push_arguments(text, keys)?;
@@ -309,13 +350,13 @@ fn push_look_up(
 }
 
 #[tactic(auto, unfolding(crate::specs::Printing::look_up_name))]
-fn look_up_name(renew: bool) -> &'static [u8]
-    ensures { result.now ≡ Printing.look_up_name renew }
+fn look_up_word(renew: bool) -> ReservedWord
+    ensures { spelling result ≡ Printing.look_up_name renew }
 {
     if renew {
-        b"checkupdatelookuptable"
+        ReservedWord::RenewingLookUp
     } else {
-        b"checklookuptable"
+        ReservedWord::LookUp
     }
 }
 

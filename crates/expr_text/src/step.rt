@@ -1,48 +1,67 @@
-ghost use Rattle.std.specs.Prelude.{◌≡◌, ◌∷◌, IfOk};
+ghost use Rattle.std.specs.Prelude.{◌≡◌, List, [], ◌∷◌, ◌++◌, IfOk};
 ghost use Rattle.expr_text.specs.Machine;
 ghost use Rattle.expr_text.specs.Tokens;
-ghost use Rattle.expr_text.specs.declared.machine.Mode.TheVariants as Mode;
+ghost use Rattle.expr_text.specs.declared.machine.Begun.TheVariants as Begun;
+ghost use Rattle.db_model.specs.declared.expression.Expr.{Expr};
 ghost use Rattle.expr_text.specs.Machine.{now, joined};
 
 use crate::fixed::{closes, open_look_up, open_present, present_name, searched, size, table_name};
 use crate::frames::Frames;
-use crate::joining::join_up;
-use crate::machine::{Frame, Mode};
+use crate::joining::{both, join_up};
+use crate::machine::{Begun, Frame, Mode, Next, Wanted};
+use crate::state::State;
 use crate::token::{BinaryOp, Call, Token};
 use db_model::{Expr, Name, NoMemory};
 use sqlite_items::{Boxed, Items};
 use std::alloc::Global;
+use std::mem;
 
 /// Opens a frame, in which an expression begins.
-fn opened(frames: &mut Frames, frame: Frame) -> Result<Option<Mode>, NoMemory>
-    ensures { IfOk result (λ mode. now mode frames.new ≡ Machine.at Mode.Wants (frame ∷ frames.old)) }
+fn opened(frames: &mut Frames, kind: Begun, parts: Items<Expr>) -> Result<Option<Mode>, NoMemory>
+    ensures { IfOk result (λ mode. now mode frames.new ≡ Machine.wants (Machine.frame kind parts ∷ frames.old)) }
 {
-    frames.push(frame)?;
-    Ok(Some(Mode::Wants))
+    frames.push(Frame { kind, parts })?;
+    Ok(Some(Mode::Wants(Wanted::Expression)))
+}
+
+/// Opens a frame behind one expression.
+fn opened_behind(
+    alloc: Global,
+    frames: &mut Frames,
+    kind: Begun,
+    left: Expr,
+) -> Result<Option<Mode>, NoMemory>
+    ensures { IfOk result (λ mode. now mode frames.new ≡ Machine.wants (Machine.frame kind (left ∷ []) ∷ frames.old)) }
+{
+    let mut parts = Items::new(alloc);
+    parts.push(left)?;
+    opened(frames, kind, parts)
 }
 
 /// A token with which an expression begins.
-fn begin(frames: &mut Frames, token: Token) -> Result<Option<Mode>, NoMemory>
+fn begin(alloc: Global, frames: &mut Frames, token: Token) -> Result<Option<Mode>, NoMemory>
     ensures { IfOk result (λ mode. now mode frames.new ≡ Machine.begin frames.old token) }
 {
     match token {
-        Token::Number(n) => Ok(Some(Mode::Has(Expr::Number(n)))),
-        Token::Text(bytes) => Ok(Some(Mode::Has(Expr::Text(bytes)))),
-        Token::Name(name) => Ok(Some(Mode::Has(Expr::Field(name)))),
-        Token::Protocol(name) => Ok(Some(Mode::Has(Expr::Protocol(name)))),
-        Token::Variable(name) => Ok(Some(Mode::Has(Expr::Variable(name)))),
-        Token::Column { table, column } => { Ok(Some(Mode::Has(Expr::Column { table, column }))) }
+        Token::Number(n) => Ok(Some(Mode::Behind(Next::Any, Expr::Number(n)))),
+        Token::Text(bytes) => Ok(Some(Mode::Behind(Next::Any, Expr::Text(bytes)))),
+        Token::Name(name) => Ok(Some(Mode::Behind(Next::Any, Expr::Field(name)))),
+        Token::Protocol(name) => Ok(Some(Mode::Behind(Next::Any, Expr::Protocol(name)))),
+        Token::Variable(name) => Ok(Some(Mode::Behind(Next::Any, Expr::Variable(name)))),
+        Token::Column { table, column } => {
+            Ok(Some(Mode::Behind(Next::Any, Expr::Column { table, column })))
+        }
         Token::Not => {
             if frames.wanted() <= 3 {
-                opened(frames, Frame::Negated)
+                opened(frames, Begun::Negated, Items::new(alloc))
             } else {
                 Ok(None)
             }
         }
-        Token::Open => opened(frames, Frame::Parenthesis),
-        Token::Call(call) => Ok(Some(Mode::CallOpens(call))),
-        Token::IsPresent => Ok(Some(Mode::PresentOpens)),
-        Token::LookUp { renew } => Ok(Some(Mode::LookUpOpens { renew })),
+        Token::Open => opened(frames, Begun::Parenthesis, Items::new(alloc)),
+        Token::Call(call) => Ok(Some(Mode::Wants(Wanted::CallOpens(call)))),
+        Token::IsPresent => Ok(Some(Mode::Wants(Wanted::PresentOpens))),
+        Token::LookUp { renew } => Ok(Some(Mode::Wants(Wanted::LookUpOpens { renew }))),
         Token::Operator(_)
         | Token::Close
         | Token::OpenBracket
@@ -63,7 +82,7 @@ fn operator(
 {
     let left = join_up(alloc, operator.left_level(), e, frames)?;
     if frames.wanted() <= operator.level() {
-        opened(frames, Frame::Operand(operator, left))
+        opened_behind(alloc, frames, Begun::Operand(operator), left)
     } else {
         Ok(None)
     }
@@ -73,9 +92,29 @@ fn close_call(alloc: Global, call: Call, e: Expr) -> Result<Option<Mode>, NoMemo
     ensures { (k : Machine.Stack) → IfOk result (λ mode. now mode k ≡ Machine.close_call call e k) }
 {
     match call {
-        Call::ToNumber => Ok(Some(Mode::Has(Expr::ToNumber(Boxed::new(alloc, e)?)))),
-        Call::LengthOf => Ok(Some(Mode::Has(Expr::LengthOf(Boxed::new(alloc, e)?)))),
+        Call::ToNumber => Ok(Some(Mode::Behind(Next::Any, Expr::ToNumber(Boxed::new(alloc, e)?)))),
+        Call::LengthOf => Ok(Some(Mode::Behind(Next::Any, Expr::LengthOf(Boxed::new(alloc, e)?)))),
         Call::ToBytes | Call::HasText => Ok(None),
+    }
+}
+
+fn close_in(
+    alloc: Global,
+    kind: Begun,
+    parts: Items<Expr>,
+    e: Expr,
+) -> Result<Option<Mode>, NoMemory>
+    ensures { (k : Machine.Stack) → IfOk result (λ mode. now mode k ≡ Machine.close_in kind parts e k) }
+{
+    match kind {
+        Begun::Parenthesis => Ok(Some(Mode::Behind(Next::Any, e))),
+        Begun::Argument(call) => close_call(alloc, call, e),
+        Begun::Key { table, renew } => {
+            let mut keys = parts;
+            keys.push(e)?;
+            Ok(Some(Mode::Behind(Next::Any, Expr::LookUp { table, renew, keys })))
+        }
+        Begun::Operand(_) | Begun::Negated | Begun::Start | Begun::Length => Ok(None),
     }
 }
 
@@ -85,22 +124,7 @@ fn close(alloc: Global, e: Expr, frames: &mut Frames) -> Result<Option<Mode>, No
 {
     match frames.pop() {
         None => Ok(None),
-        Some(Frame::Parenthesis) => Ok(Some(Mode::Has(e))),
-        Some(Frame::Argument(call)) => close_call(alloc, call, e),
-        Some(
-            Frame::Key {
-                table,
-                renew,
-                mut keys,
-            },
-        ) => {
-            keys.push(e)?;
-            Ok(Some(Mode::Has(Expr::LookUp { table, renew, keys })))
-        }
-        Some(Frame::Operand(_, _))
-        | Some(Frame::Negated)
-        | Some(Frame::Start(_))
-        | Some(Frame::Length(_, _)) => Ok(None),
+        Some(frame) => close_in(alloc, frame.kind, frame.parts, e),
     }
 }
 
@@ -109,8 +133,28 @@ fn comma_in_call(call: Call, e: Expr) -> Option<Mode>
 {
     match call {
         Call::ToNumber | Call::LengthOf => None,
-        Call::ToBytes => Some(Mode::Size(e)),
-        Call::HasText => Some(Mode::Searched(e)),
+        Call::ToBytes => Some(Mode::Behind(Next::Size, e)),
+        Call::HasText => Some(Mode::Behind(Next::Searched, e)),
+    }
+}
+
+fn comma_in(
+    frames: &mut Frames,
+    kind: Begun,
+    parts: Items<Expr>,
+    e: Expr,
+) -> Result<Option<Mode>, NoMemory>
+    ensures { IfOk result (λ mode. now mode frames.new ≡ Machine.comma_in kind parts e frames.old) }
+{
+    match kind {
+        Begun::Argument(call) => Ok(comma_in_call(call, e)),
+        Begun::Key { table, renew } => {
+            let mut keys = parts;
+            keys.push(e)?;
+            opened(frames, Begun::Key { table, renew }, keys)
+        }
+        Begun::Operand(_) | Begun::Negated | Begun::Parenthesis | Begun::Start | Begun::Length =>
+            Ok(None),
     }
 }
 
@@ -120,22 +164,21 @@ fn comma(e: Expr, frames: &mut Frames) -> Result<Option<Mode>, NoMemory>
 {
     match frames.pop() {
         None => Ok(None),
-        Some(Frame::Argument(call)) => Ok(comma_in_call(call, e)),
-        Some(
-            Frame::Key {
-                table,
-                renew,
-                mut keys,
-            },
-        ) => {
-            keys.push(e)?;
-            opened(frames, Frame::Key { table, renew, keys })
-        }
-        Some(Frame::Operand(_, _))
-        | Some(Frame::Negated)
-        | Some(Frame::Parenthesis)
-        | Some(Frame::Start(_))
-        | Some(Frame::Length(_, _)) => Ok(None),
+        Some(frame) => comma_in(frames, frame.kind, frame.parts, e),
+    }
+}
+
+fn is_start(kind: &Begun) -> bool
+    ensures { (ps : List Expr) → (e : Expr) → (k : Machine.Stack) → Machine.colon_in kind.now ps e k ≡ Machine.when result (Machine.wants (Machine.frame Begun.Length (ps ++ e ∷ []) ∷ k)) }
+{
+    match kind {
+        Begun::Start => true,
+        Begun::Operand(_)
+        | Begun::Negated
+        | Begun::Parenthesis
+        | Begun::Length
+        | Begun::Argument(_)
+        | Begun::Key { .. } => false,
     }
 }
 
@@ -144,14 +187,48 @@ fn colon(e: Expr, frames: &mut Frames) -> Result<Option<Mode>, NoMemory>
     ensures { IfOk result (λ mode. now mode frames.new ≡ Machine.colon e frames.old) }
 {
     match frames.pop() {
-        None => Ok(None),
-        Some(Frame::Start(base)) => opened(frames, Frame::Length(base, e)),
-        Some(Frame::Operand(_, _))
-        | Some(Frame::Negated)
-        | Some(Frame::Parenthesis)
-        | Some(Frame::Length(_, _))
-        | Some(Frame::Argument(_))
-        | Some(Frame::Key { .. }) => Ok(None),
+        Some(frame) if is_start(&frame.kind) => {
+            let mut parts = frame.parts;
+            parts.push(e)?;
+            opened(frames, Begun::Length, parts)
+        }
+        _ => Ok(None),
+    }
+}
+
+fn slice(alloc: Global, base: Expr, from: Expr, count: Expr) -> Result<Expr, NoMemory>
+    ensures { IfOk result (λ e. e ≡ Machine.sliced (base ∷ (from ∷ [])) count) }
+{
+    let (from, count) = both(alloc, from, count)?;
+    let base = Boxed::new(alloc, base)?;
+    Ok(Expr::Slice { base, from, count })
+}
+
+/// A slice of its base and its first place, and of its length.
+fn sliced(alloc: Global, parts: Items<Expr>, count: Expr) -> Result<Expr, NoMemory>
+    ensures { IfOk result (λ e. e ≡ Machine.sliced parts count) }
+{
+    let mut parts = parts;
+    let Some(from) = parts.pop() else {
+        return Ok(count);
+    };
+    match parts.pop() {
+        Some(base) if parts.is_empty() => slice(alloc, base, from, count),
+        _ => Ok(count),
+    }
+}
+
+fn is_length(kind: &Begun) -> bool
+    ensures { (ps : List Expr) → (e : Expr) → (k : Machine.Stack) → Machine.close_bracket_in kind.now ps e k ≡ Machine.when result (Machine.has (Machine.sliced ps e) k) }
+{
+    match kind {
+        Begun::Length => true,
+        Begun::Operand(_)
+        | Begun::Negated
+        | Begun::Parenthesis
+        | Begun::Start
+        | Begun::Argument(_)
+        | Begun::Key { .. } => false,
     }
 }
 
@@ -160,19 +237,10 @@ fn close_bracket(alloc: Global, e: Expr, frames: &mut Frames) -> Result<Option<M
     ensures { IfOk result (λ mode. now mode frames.new ≡ Machine.close_bracket e frames.old) }
 {
     match frames.pop() {
-        None => Ok(None),
-        Some(Frame::Length(base, from)) => {
-            let base = Boxed::new(alloc, base)?;
-            let from = Boxed::new(alloc, from)?;
-            let count = Boxed::new(alloc, e)?;
-            Ok(Some(Mode::Has(Expr::Slice { base, from, count })))
+        Some(frame) if is_length(&frame.kind) => {
+            Ok(Some(Mode::Behind(Next::Any, sliced(alloc, frame.parts, e)?)))
         }
-        Some(Frame::Operand(_, _))
-        | Some(Frame::Negated)
-        | Some(Frame::Parenthesis)
-        | Some(Frame::Start(_))
-        | Some(Frame::Argument(_))
-        | Some(Frame::Key { .. }) => Ok(None),
+        _ => Ok(None),
     }
 }
 
@@ -187,7 +255,7 @@ fn go_on(
 {
     match token {
         Token::Operator(sign) => operator(alloc, sign, e, frames),
-        Token::OpenBracket => opened(frames, Frame::Start(e)),
+        Token::OpenBracket => opened_behind(alloc, frames, Begun::Start, e),
         Token::Close => {
             let whole = join_up(alloc, 1, e, frames)?;
             close(alloc, whole, frames)
@@ -219,11 +287,16 @@ fn go_on(
 }
 
 /// The parenthesis behind a function's name.
-fn open_call(frames: &mut Frames, call: Call, token: Token) -> Result<Option<Mode>, NoMemory>
+fn open_call(
+    alloc: Global,
+    frames: &mut Frames,
+    call: Call,
+    token: Token,
+) -> Result<Option<Mode>, NoMemory>
     ensures { IfOk result (λ mode. now mode frames.new ≡ Machine.open_call call frames.old token) }
 {
     match token {
-        Token::Open => opened(frames, Frame::Argument(call)),
+        Token::Open => opened(frames, Begun::Argument(call), Items::new(alloc)),
         _ => Ok(None),
     }
 }
@@ -239,14 +312,51 @@ fn key_or_end(
     ensures { IfOk result (λ mode. now mode frames.new ≡ Machine.key_or_end table renew keys frames.old token) }
 {
     match token {
-        Token::Comma => opened(frames, Frame::Key { table, renew, keys }),
-        Token::Close => Ok(Some(Mode::Has(Expr::LookUp { table, renew, keys }))),
+        Token::Comma => opened(frames, Begun::Key { table, renew }, keys),
+        Token::Close => Ok(Some(Mode::Behind(Next::Any, Expr::LookUp { table, renew, keys }))),
         _ => Ok(None),
     }
 }
 
+/// A token where no expression is held.
+fn wanted_in(
+    alloc: Global,
+    wanted: Wanted,
+    frames: &mut Frames,
+    token: Token,
+) -> Result<Option<Mode>, NoMemory>
+    ensures { IfOk result (λ next. now next frames.new ≡ Machine.wanted_in wanted frames.old token) }
+{
+    match wanted {
+        Wanted::Expression => begin(alloc, frames, token),
+        Wanted::CallOpens(call) => open_call(alloc, frames, call, token),
+        Wanted::PresentOpens => Ok(open_present(token)),
+        Wanted::PresentName => Ok(present_name(token)),
+        Wanted::LookUpOpens { renew } => Ok(open_look_up(renew, token)),
+        Wanted::TableName { renew } => Ok(table_name(alloc, renew, token)),
+    }
+}
+
+/// A token behind an expression.
+fn behind(
+    alloc: Global,
+    next: Next,
+    e: Expr,
+    frames: &mut Frames,
+    token: Token,
+) -> Result<Option<Mode>, NoMemory>
+    ensures { IfOk result (λ mode. now mode frames.new ≡ Machine.behind next e frames.old token) }
+{
+    match next {
+        Next::Any => go_on(alloc, e, frames, token),
+        Next::Size => size(alloc, e, token),
+        Next::Searched => searched(alloc, e, token),
+        Next::Closes => Ok(closes(e, token)),
+    }
+}
+
 /// The mode behind a token, or none where the token is at fault; what is open is changed with it.
-pub fn step(
+fn step_in(
     alloc: Global,
     mode: Mode,
     frames: &mut Frames,
@@ -255,16 +365,30 @@ pub fn step(
     ensures { IfOk result (λ next. now next frames.new ≡ Machine.step_in mode frames.old token) }
 {
     match mode {
-        Mode::Wants => begin(frames, token),
-        Mode::Has(e) => go_on(alloc, e, frames, token),
-        Mode::CallOpens(call) => open_call(frames, call, token),
-        Mode::PresentOpens => Ok(open_present(token)),
-        Mode::PresentName => Ok(present_name(token)),
-        Mode::LookUpOpens { renew } => Ok(open_look_up(renew, token)),
-        Mode::TableName { renew } => Ok(table_name(alloc, renew, token)),
+        Mode::Wants(wanted) => wanted_in(alloc, wanted, frames, token),
+        Mode::Behind(next, e) => behind(alloc, next, e, frames, token),
         Mode::Keys { table, renew, keys } => key_or_end(frames, table, renew, keys, token),
-        Mode::Size(e) => size(alloc, e, token),
-        Mode::Searched(e) => searched(alloc, e, token),
-        Mode::Closes(e) => Ok(closes(e, token)),
     }
+}
+
+/// Goes on in the next mode, where there is one.
+fn settle(state: &mut State, next: Option<Mode>) -> bool
+    ensures { Machine.stepped result state.new ≡ now next state.old.stack }
+{
+    match next {
+        None => false,
+        Some(mode) => {
+            state.mode = mode;
+            true
+        }
+    }
+}
+
+/// Takes a token, unless no expression goes on with it; then the state says nothing any more.
+pub fn step(alloc: Global, state: &mut State, token: Token) -> Result<bool, NoMemory>
+    ensures { IfOk result (λ taken. Machine.stepped taken state.new ≡ Machine.step state.old token) }
+{
+    let mode = mem::replace(&mut state.mode, Mode::Wants(Wanted::Expression));
+    let next = step_in(alloc, mode, &mut state.stack, token)?;
+    Ok(settle(state, next))
 }

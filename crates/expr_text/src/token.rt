@@ -4,7 +4,7 @@ ghost use Rattle.expr_text.specs.Tokens;
 use db_model::{Bytes, Name, Operator};
 
 /// An operator between two operands.
-#[derive(Clone, Copy, Debug, PartialEq, Eq)]
+#[derive(Clone, Copy)]
 pub enum BinaryOp {
     Or,
     And,
@@ -46,7 +46,7 @@ impl BinaryOp {
 }
 
 /// A function whose first argument is an expression.
-#[derive(Clone, Copy, Debug, PartialEq, Eq)]
+#[derive(Clone, Copy)]
 pub enum Call {
     /// `buf2int`
     ToNumber,
@@ -59,7 +59,7 @@ pub enum Call {
 }
 
 /// A token of the expression language.
-#[derive(Debug, Drop)]
+#[derive(Drop)]
 pub enum Token {
     Number(u32),
     Text(Bytes),

@@ -1,72 +1,44 @@
 ghost use Rattle.std.specs.Prelude.{◌≡◌, ◌<◌, ◌≤◌, ◌+◌, ◌-◌, IfOk, length, drop};
+ghost use Rattle.db_model.specs.Name.{reserved};
 ghost use Rattle.expr_text.specs.Lexing;
 
 use crate::lexeme::{Lexeme, Scanned};
 use crate::runs::{follows, word_run};
 use crate::token::{BinaryOp, Call, Token};
-use db_model::{Name, NoMemory, Operator, is_name};
+use db_model::{Name, NoMemory, Operator, ReservedWord, is_name, reserved};
 use std::alloc::Global;
 
-/// A word that is an operator.
-#[tactic(auto, unfolding(crate::specs::Lexing::operator_word))]
-fn operator_word(word: &[u8]) -> Option<Token>
-    ensures { result ≡ Lexing.operator_word word.now }
+/// The token of a reserved word.
+fn token_of(word: ReservedWord) -> Token
+    ensures { result ≡ Lexing.token_of word }
 {
-    if word == b"or".as_slice() {
-        Some(Token::Operator(BinaryOp::Or))
-    } else if word == b"and".as_slice() {
-        Some(Token::Operator(BinaryOp::And))
-    } else if word == b"not".as_slice() {
-        Some(Token::Not)
-    } else if word == b"lt".as_slice() {
-        Some(Token::Operator(BinaryOp::Plain(Operator::Lt)))
-    } else if word == b"le".as_slice() {
-        Some(Token::Operator(BinaryOp::Plain(Operator::Le)))
-    } else if word == b"gt".as_slice() {
-        Some(Token::Operator(BinaryOp::Plain(Operator::Gt)))
-    } else if word == b"ge".as_slice() {
-        Some(Token::Operator(BinaryOp::Plain(Operator::Ge)))
-    } else if word == b"mod".as_slice() {
-        Some(Token::Operator(BinaryOp::Plain(Operator::Mod)))
-    } else if word == b"bitwand".as_slice() {
-        Some(Token::Operator(BinaryOp::Plain(Operator::BitAnd)))
-    } else if word == b"bitwor".as_slice() {
-        Some(Token::Operator(BinaryOp::Plain(Operator::BitOr)))
-    } else {
-        None
+    match word {
+        ReservedWord::Or => Token::Operator(BinaryOp::Or),
+        ReservedWord::And => Token::Operator(BinaryOp::And),
+        ReservedWord::Not => Token::Not,
+        ReservedWord::Lt => Token::Operator(BinaryOp::Plain(Operator::Lt)),
+        ReservedWord::Le => Token::Operator(BinaryOp::Plain(Operator::Le)),
+        ReservedWord::Gt => Token::Operator(BinaryOp::Plain(Operator::Gt)),
+        ReservedWord::Ge => Token::Operator(BinaryOp::Plain(Operator::Ge)),
+        ReservedWord::Mod => Token::Operator(BinaryOp::Plain(Operator::Mod)),
+        ReservedWord::BitAnd => Token::Operator(BinaryOp::Plain(Operator::BitAnd)),
+        ReservedWord::BitOr => Token::Operator(BinaryOp::Plain(Operator::BitOr)),
+        ReservedWord::ToNumber => Token::Call(Call::ToNumber),
+        ReservedWord::LengthOf => Token::Call(Call::LengthOf),
+        ReservedWord::ToBytes => Token::Call(Call::ToBytes),
+        ReservedWord::HasText => Token::Call(Call::HasText),
+        ReservedWord::IsPresent => Token::IsPresent,
+        ReservedWord::LookUp => Token::LookUp { renew: false },
+        ReservedWord::RenewingLookUp => Token::LookUp { renew: true },
     }
 }
 
-/// The name of a function.
-#[tactic(auto, unfolding(crate::specs::Lexing::function_word))]
-fn function_word(word: &[u8]) -> Option<Token>
-    ensures { result ≡ Lexing.function_word word.now }
+fn token_of_word(word: &[u8]) -> Option<Token>
+    ensures { result ≡ Lexing.token_of_word (reserved word.now) }
 {
-    if word == b"buf2int".as_slice() {
-        Some(Token::Call(Call::ToNumber))
-    } else if word == b"buflen".as_slice() {
-        Some(Token::Call(Call::LengthOf))
-    } else if word == b"int2buf".as_slice() {
-        Some(Token::Call(Call::ToBytes))
-    } else if word == b"hasstring".as_slice() {
-        Some(Token::Call(Call::HasText))
-    } else if word == b"ispresent".as_slice() {
-        Some(Token::IsPresent)
-    } else if word == b"checklookuptable".as_slice() {
-        Some(Token::LookUp { renew: false })
-    } else if word == b"checkupdatelookuptable".as_slice() {
-        Some(Token::LookUp { renew: true })
-    } else {
-        None
-    }
-}
-
-fn reserved(word: &[u8]) -> Option<Token>
-    ensures { result ≡ Lexing.or_else (Lexing.operator_word word.now) (Lexing.function_word word.now) }
-{
-    match operator_word(word) {
-        Some(token) => Some(token),
-        None => function_word(word),
+    match reserved(word) {
+        None => None,
+        Some(word) => Some(token_of(word)),
     }
 }
 
@@ -97,7 +69,7 @@ pub fn word(alloc: Global, word: &[u8]) -> Result<Scanned, NoMemory>
         let name = Name::copy_of(alloc, word)?;
         return Ok(one_of(Some(Token::Name(name)), word.len()));
     }
-    Ok(one_of(reserved(word), word.len()))
+    Ok(one_of(token_of_word(word), word.len()))
 }
 
 /// What stands behind a `#`.

@@ -3,6 +3,7 @@
 #![tactic(auto)]
 
 mod arity;
+mod fields;
 mod logic;
 mod names;
 mod types;

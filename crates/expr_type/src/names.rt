@@ -5,9 +5,9 @@ ghost use Rattle.db_model.specs.Numbering.{names_at};
 ghost use Rattle.db_model.specs.Special.{special};
 ghost use Rattle.db_model.specs.Typing.{has_undeclared, is_among, is_protocol, is_table, is_variable, column_names, some_of};
 
+use crate::fields::has_field;
 use crate::logic::either;
-use db_model::{Database, Declaration, Expr, Name, Protocol, Special};
-use numbering::has_field;
+use db_model::{Database, Declaration, Expr, Name, Protocol, Special, place_of};
 
 /// Whether an expression names something that isn't declared. The fields are those of the protocol.
 #[cycle(names)]
@@ -68,12 +68,7 @@ fn some_undeclared(keys: &[Expr], db: &Database, protocol: Option<&Protocol>) ->
 fn is_declared<T: Declaration>(name: &Name, declared: &[T]) -> bool
     ensures { result ≡ is_among name.now (map T.named declared.now) }
 {
-    for declaration in declared {
-        if name.as_slice() == declaration.name() {
-            return true;
-        }
-    }
-    false
+    place_of(name.as_slice(), declared) < declared.len()
 }
 
 fn is_field(name: &Name, protocol: Option<&Protocol>) -> bool

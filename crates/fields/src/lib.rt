@@ -11,6 +11,3 @@ mod token;
 pub use bits::bit_value;
 pub use outcome::Extent;
 pub use size::extent;
-
-#[cfg(test)]
-mod tests;

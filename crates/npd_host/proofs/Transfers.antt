@@ -28,6 +28,7 @@ append_known-append (Some bytes) xs ys = ap Some (append_assoc bytes xs ys)
 -- before the first read nothing was given
 pub gave_none : (id : ℕ) (r : Inputs) → Gave id r r []
 gave_none id r = record {
+  opened = refl;
   names = refl;
   front = FrontIs-nil (r.held id);
   others = λ other h. refl;
@@ -36,6 +37,7 @@ gave_none id r = record {
 -- what two reads gave, one after the other
 pub gave_then : (id : ℕ) (r s t : Inputs) (xs ys : List ℕ) → Gave id r s xs → Gave id s t ys → Gave id r t (xs ++ ys)
 gave_then id r s t xs ys p q = record {
+  opened = q.opened ∙ p.opened;
   names = q.names ∙ p.names;
   front = FrontIs-then (r.held id) (s.held id) (t.held id) xs ys p.front q.front;
   others = λ other h. q.others other h ∙ p.others other h;
@@ -44,6 +46,7 @@ gave_then id r s t xs ys p q = record {
 -- before the first write nothing was taken
 pub took_none : (id : ℕ) (r : Outputs) → Took id r r []
 took_none id r = record {
+  opened = refl;
   names = refl;
   taken = append_known-nil (r.taken id);
   others = λ other h. refl;
@@ -52,6 +55,7 @@ took_none id r = record {
 -- what two writes took, one after the other
 pub took_then : (id : ℕ) (r s t : Outputs) (xs ys : List ℕ) → Took id r s xs → Took id s t ys → Took id r t (xs ++ ys)
 took_then id r s t xs ys p q = record {
+  opened = q.opened ∙ p.opened;
   names = q.names ∙ p.names;
   taken = q.taken ∙ ap (λ o. append_known o ys) p.taken ∙ append_known-append (r.taken id) xs ys;
   others = λ other h. q.others other h ∙ p.others other h;

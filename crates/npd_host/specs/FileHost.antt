@@ -15,11 +15,11 @@ pub record FileState : Type 0 where
 
 -- inputs of these names, of which nothing else is told
 abbrev pub untold_inputs : List (List ℕ) → Inputs
-untold_inputs names = record { name = λ id. slice_get names id; held = λ id. None }
+untold_inputs names = record { opened = names; name = λ id. slice_get names id; held = λ id. None }
 
 -- outputs of these names, of which nothing else is told
 abbrev pub untold_outputs : List (List ℕ) → Outputs
-untold_outputs names = record { name = λ id. slice_get names id; taken = λ id. None }
+untold_outputs names = record { opened = names; name = λ id. slice_get names id; taken = λ id. None }
 
 -- whether the counts are those of this name
 abbrev pub is_of : List ℕ → NameFaults → Bool

@@ -1,11 +1,11 @@
 -- What a `MemHost` is seen as, and the words of its calls.
-use Rattle.std.specs.Prelude.{◌≡◌, ◌<◌, ◌^◌, ℕ, Bool, true, false, ◌&&◌, if◌then◌else◌, nat_lt, List, [], ◌∷◌, ◌++◌, length, slice_get, Option, Some, None, IfSome, Result, Ok, Err, refl}
+use Rattle.std.specs.Prelude.{◌≡◌, ◌<◌, ◌^◌, ℕ, Bool, true, false, ◌&&◌, if◌then◌else◌, nat_lt, List, [], ◌∷◌, ◌++◌, length, map, slice_get, Option, Some, None, IfSome, Result, Ok, Err, refl}
 use Rattle.std.specs.List.{Contains, count_by}
 use Rattle.std.specs.Option.{option_map, option_and_then}
 use Rattle.std.specs.Str.{bytes_eq}
 use Rattle.std.proofs.lemmas.Bool.{ltb-true}
 use Rattle.npd_host.specs.Host.{Inputs, Outputs}
-use Rattle.npd_host.specs.Named.{Named}
+use Rattle.npd_host.specs.Named.{Named, bytes_of}
 use Rattle.npd_host.specs.Counts.{count_at, raised}
 use Rattle.npd_host.specs.declared.counts.Counts.{Counts}
 use Rattle.npd_host.specs.declared.memory.calls.PlannedCall.{PlannedCall}
@@ -26,6 +26,18 @@ pub record HostState : Type 0 where
   pub calls : Counts
   pub failed : List FailedCall
 
+-- a `MemHost` without files, whose reads give at most this many bytes
+abbrev pub new_host : ℕ → HostState
+new_host chunk = record {
+  chunk = chunk;
+  files = [];
+  inputs = [];
+  outputs = [];
+  planned = [];
+  calls = record { open_in = 0; read = 0; open_out = 0; write = 0 };
+  failed = [];
+}
+
 -- what a host tells of what an input holds: fewer than 2^64 bytes, as no input of a `MemHost` has more
 abbrev pub told : List ℕ → Option (List ℕ)
 told bytes = if nat_lt (length bytes) (2 ^ 64) then Some bytes else None
@@ -40,7 +52,11 @@ told-bounded bytes = by_test (nat_lt (length bytes) (2 ^ 64)) refl
 
 -- inputs by their place in a list
 abbrev pub inputs_at : List Named → Inputs
-inputs_at xs = record { name = λ id. option_map (λ x. x.name) (slice_get xs id); held = λ id. option_and_then (λ x. told x.bytes) (slice_get xs id) }
+inputs_at xs = record {
+  opened = map (λ x. x.name) xs;
+  name = λ id. option_map (λ x. x.name) (slice_get xs id);
+  held = λ id. option_and_then (λ x. told x.bytes) (slice_get xs id);
+}
 
 pub inputs_at-bounded : (xs : List Named) (id : ℕ) → IfSome ((inputs_at xs).held id) (λ bytes. length bytes < 2 ^ 64)
 inputs_at-bounded xs id = by_place (slice_get xs id)
@@ -51,7 +67,11 @@ inputs_at-bounded xs id = by_place (slice_get xs id)
 
 -- outputs by their place in a list
 abbrev pub outputs_at : List Named → Outputs
-outputs_at xs = record { name = λ id. option_map (λ x. x.name) (slice_get xs id); taken = λ id. option_map (λ x. x.bytes) (slice_get xs id) }
+outputs_at xs = record {
+  opened = map (λ x. x.name) xs;
+  name = λ id. option_map (λ x. x.name) (slice_get xs id);
+  taken = λ id. option_map (λ x. x.bytes) (slice_get xs id);
+}
 
 -- whether two kinds are the same
 abbrev pub same_kind : CallKind → CallKind → Bool
@@ -64,6 +84,22 @@ same_kind _ _ = false
 -- how many failed calls are of a kind and on a name
 abbrev pub faults_in : List FailedCall → CallKind → List ℕ → ℕ
 faults_in failed kind name = count_by (λ call. same_kind call.kind kind && bytes_eq call.name name) failed
+
+-- the inputs of a `MemHost`
+abbrev pub host_inputs : HostState → Inputs
+host_inputs host = inputs_at host.inputs
+
+-- its outputs
+abbrev pub host_outputs : HostState → Outputs
+host_outputs host = outputs_at host.outputs
+
+-- the bytes of its files by name
+abbrev pub host_files : HostState → List ℕ → Option (List ℕ)
+host_files host = bytes_of host.files
+
+-- its counts of faults
+abbrev pub host_faults : HostState → CallKind → List ℕ → ℕ
+host_faults host = faults_in host.failed
 
 -- a call of this kind is planned to fail under this number
 abbrev pub IsPlanned : CallKind → ℕ → List PlannedCall → Type 0
@@ -78,17 +114,18 @@ abbrev pub failed_with : HostFail → FailedCall → List FailedCall → List Fa
 failed_with Failed call failed = failed ++ call ∷ []
 failed_with NoMemory call failed = failed
 
--- the failed calls after this one had this answer
-abbrev pub failed_after : {T : Type 0} → Result T HostFail → FailedCall → List FailedCall → List FailedCall
-failed_after (Ok _) call failed = failed
-failed_after (Err why) call failed = failed_with why call failed
+-- the failed calls after one of this kind on this name had this answer
+abbrev pub failed_after : {T : Type 0} → Result T HostFail → CallKind → Option (List ℕ) → List FailedCall → List FailedCall
+failed_after (Ok _) kind name failed = failed
+failed_after (Err why) kind None failed = failed
+failed_after (Err why) kind (Some name) failed = failed_with why (record { kind = kind; name = name }) failed
 
 -- the host after a call of this kind on this name had this answer, but for what the call moved:
 -- the call is counted, and it is noted where it failed
-abbrev pub after_call : {T : Type 0} → CallKind → List ℕ → Result T HostFail → HostState → HostState
+abbrev pub after_call : {T : Type 0} → CallKind → Option (List ℕ) → Result T HostFail → HostState → HostState
 after_call kind name result host = record host {
   calls = raised kind host.calls;
-  failed = failed_after result (record { kind = kind; name = name }) host.failed;
+  failed = failed_after result kind name host.failed;
 }
 
 -- no output has this name

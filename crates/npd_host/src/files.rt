@@ -17,7 +17,7 @@ use streams::{Sink, Source};
 /// content. An id is the place in the list of its inputs or of its outputs.
 ///
 /// A call that is interrupted is repeated at most 1,000 times, and then fails. A write that takes nothing
-/// fails.
+/// fails, and so does one that would block.
 pub struct FileHost<'a, R: Files + Input + Print> {
     rt: &'a R,
     alloc: Global,
@@ -127,6 +127,3 @@ impl<R: Files + Input + Print> Host for FileHost<'_, R> {
         }
     }
 }
-
-#[cfg(test)]
-mod tests;

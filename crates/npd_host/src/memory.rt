@@ -1,8 +1,9 @@
-ghost use Rattle.std.specs.Prelude.{◌≡◌, ◌<◌, ◌≤◌, ◌⊎◌, ◌++◌, ◌∷◌, [], min, None, Some, IfOk, OnOk, OnErr, IsSome, IsSomeAnd, IsErr, IsErrOf, IsOk, IsOkAnd, IsOkUnless, unwrap_or, MatchOption, length, take};
+ghost use Rattle.std.specs.Prelude.{◌≡◌, ◌<◌, ◌≤◌, ◌⊎◌, ◌++◌, ◌∷◌, [], min, None, Some, IfOk, OnOk, OnErr, IsSome, IsSomeAnd, IsErr, IsErrOf, IsOk, IsOkAnd, IsOkUnless, MatchOption, length, take};
 ghost use Rattle.std.specs.Io.KnownBytes.{IsAtEnd};
-ghost use Rattle.npd_host.specs.Host.{OpensInput, OpensOutput, Gave, Took, NoneFalls, Rose, RoseAt};
-ghost use Rattle.npd_host.specs.Named.{bytes_of, Puts};
-ghost use Rattle.npd_host.specs.MemHost.{HostState, inputs_at, outputs_at, faults_in, inputs_at-bounded, IsDue, after_call, NoneNamed, LastNamed};
+ghost use Rattle.npd_host.specs.declared.memory.calls.PlannedCall.{PlannedCall};
+ghost use Rattle.npd_host.specs.Host.{OpensInput, OpensOutput, Gave, Took, CountRose, MovesInputsOnly, MovesOutputsOnly};
+ghost use Rattle.npd_host.specs.Named.{Puts};
+ghost use Rattle.npd_host.specs.MemHost.{new_host, host_inputs, host_outputs, host_files, host_faults, inputs_at-bounded, IsDue, after_call, NoneNamed, LastNamed};
 
 mod calls;
 mod files;
@@ -22,7 +23,7 @@ use std::marker::Model;
 
 /// A host in memory, which fails as it was told and where an input is missing. It tells everything.
 /// An id is the place in the list of its inputs or of its outputs.
-#[derive(Debug, Drop)]
+#[derive(Drop)]
 pub struct MemHost {
     alloc: Global,
     chunk: u32,
@@ -57,7 +58,7 @@ impl MemHost {
     /// A host without files, whose reads give at most `chunk` bytes. Takes no memory, so it is always `Ok`.
     pub fn new(alloc: Global, chunk: u32) -> Result<MemHost, NoMemory>
         requires { 0 < chunk }
-        ensures { IsOkAnd result (λ host. host ≡ record { chunk = chunk; files = []; inputs = []; outputs = []; planned = []; calls = Counts.ZERO; failed = [] }) }
+        ensures { IsOkAnd result (λ host. host ≡ new_host chunk) }
     {
         Ok(MemHost {
             alloc,
@@ -73,7 +74,8 @@ impl MemHost {
 
     /// Adds an input, or replaces the one of that name. An input that is open still holds what it held.
     pub fn put_file(&mut self, name: &str, bytes: &[u8]) -> Result<(), NoMemory>
-        ensures put { OnOk result (Puts (bytes_of self.old.files) (bytes_of self.new.files) name.now bytes.now) }
+        ensures put { OnOk result
+            (Puts (host_files self.old) (host_files self.new) name.now bytes.now) }
         ensures rest { self.new ≡ record self.old { files = self.new.files } }
         ensures left { OnErr result (self.new ≡ self.old) }
     {
@@ -83,7 +85,8 @@ impl MemHost {
     /// Lets the call numbered `nth` of this kind fail. The calls of each kind are numbered from 0 over the
     /// host's life.
     pub fn fail(&mut self, kind: CallKind, nth: u64) -> Result<(), NoMemory>
-        ensures planned { OnOk result (self.new ≡ record self.old { planned = self.old.planned ++ record { kind = kind; nth = nth } ∷ [] }) }
+        ensures planned { let call : PlannedCall = record { kind = kind; nth = nth } in
+            OnOk result (self.new ≡ record self.old { planned = self.old.planned ++ call ∷ [] }) }
         ensures left { OnErr result (self.new ≡ self.old) }
     {
         self.planned.push(PlannedCall { kind, nth })?;
@@ -92,38 +95,46 @@ impl MemHost {
 
     /// What the output of that name that was opened last has taken.
     pub fn written(&self, name: &str) -> Option<&[u8]>
-        ensures { MatchOption result (NoneNamed (outputs_at self.now.outputs) name.now) (λ bytes. LastNamed (outputs_at self.now.outputs) name.now bytes.now) }
+        ensures { MatchOption result (NoneNamed (host_outputs self.now) name.now) (λ bytes.
+            LastNamed (host_outputs self.now) name.now bytes.now) }
     {
         outputs::last(&self.outputs, name)
     }
 }
 
 impl Host for MemHost {
-    ghost inputs = { λ host. inputs_at host.inputs };
+    ghost inputs = { host_inputs };
 
-    ghost outputs = { λ host. outputs_at host.outputs };
+    ghost outputs = { host_outputs };
 
-    ghost files = { λ host. bytes_of host.files };
+    ghost files = { host_files };
 
-    ghost faults = { λ host. faults_in host.failed };
+    ghost faults = { host_faults };
 
     ghost bounded = { λ host. inputs_at-bounded host.inputs };
 
     fn open_in(&mut self, name: &str) -> Result<InId, HostFail>
-        ensures given { IfOk result (λ id. OpensInput (inputs_at self.old.inputs) (inputs_at self.new.inputs) id.0 name.now (bytes_of self.old.files name.now)) }
-        ensures refused { OnErr result (inputs_at self.new.inputs ≡ inputs_at self.old.inputs) }
-        ensures outputs { outputs_at self.new.outputs ≡ outputs_at self.old.outputs }
-        ensures files { bytes_of self.new.files ≡ bytes_of self.old.files }
-        ensures later { NoneFalls (faults_in self.old.failed) (faults_in self.new.failed) }
-        ensures cause { IsErrOf result HostFail.Failed → Rose (faults_in self.old.failed CallKind.OpenIn name.now) (faults_in self.new.failed CallKind.OpenIn name.now) }
+        ensures given { IfOk result (λ id.
+            OpensInput (host_inputs self.old) (host_inputs self.new) id.0
+            name.now (host_files self.old name.now)) }
+        ensures refused { OnErr result (host_inputs self.new ≡ host_inputs self.old) }
+        ensures frame { MovesInputsOnly host_outputs host_files host_faults self.old self.new }
+        ensures cause { IsErrOf result HostFail.Failed
+            → CountRose CallKind.OpenIn (Some name.now) host_faults self.old self.new }
 
         // Beyond what every host keeps: it fails where it was told, and nowhere else.
         ensures place { IfOk result (λ id. id.0 ≡ length self.old.inputs) }
-        ensures only_told { IsErrOf result HostFail.Failed → IsDue CallKind.OpenIn self.old ⊎ (bytes_of self.old.files name.now ≡ None) }
-        ensures as_told { IsDue CallKind.OpenIn self.old ⊎ (bytes_of self.old.files name.now ≡ None) → IsErr result }
+        ensures only_told { IsErrOf result HostFail.Failed
+            → IsDue CallKind.OpenIn self.old ⊎ (host_files self.old name.now ≡ None) }
+        ensures as_told { IsDue CallKind.OpenIn self.old ⊎ (host_files self.old name.now ≡ None)
+            → IsErr result }
         ensures left { OnErr result (self.new.inputs ≡ self.old.inputs) }
-        ensures rest { self.new ≡ record (after_call CallKind.OpenIn name.now result self.old) { inputs = self.new.inputs } }
-        ensures sure { (self.old.planned ≡ []) × IsSome (bytes_of self.old.files name.now) → IsOkUnless result HostFail.NoMemory × (self.new.failed ≡ self.old.failed) }
+        ensures rest { self.new
+            ≡ record (after_call CallKind.OpenIn (Some name.now) result self.old) {
+              inputs = self.new.inputs;
+            } }
+        ensures sure { (self.old.planned ≡ []) × IsSome (host_files self.old name.now)
+            → IsOkUnless result HostFail.NoMemory × (self.new.failed ≡ self.old.failed) }
     {
         if is_due(&self.planned, &mut self.calls, CallKind::OpenIn) {
             return Err(note(self.alloc, &mut self.failed, CallKind::OpenIn, name));
@@ -135,23 +146,28 @@ impl Host for MemHost {
     }
 
     fn read(&mut self, id: InId, buf: &mut [u8]) -> Result<usize, HostFail>
-        requires given { IsSome ((inputs_at self.old.inputs).name id.0) }
+        requires given { IsSome ((host_inputs self.old).name id.0) }
         requires room { 0 < length buf.old }
         ensures bound { IfOk result (λ n. n ≤ length buf.new) }
-        ensures gave { IfOk result (λ n. Gave id.0 (inputs_at self.old.inputs) (inputs_at self.new.inputs) (take n buf.new)) }
-        ensures end { IfOk result (λ n. n ≡ 0 → IsAtEnd ((inputs_at self.new.inputs).held id.0)) }
-        ensures refused { OnErr result (inputs_at self.new.inputs ≡ inputs_at self.old.inputs) }
-        ensures outputs { outputs_at self.new.outputs ≡ outputs_at self.old.outputs }
-        ensures files { bytes_of self.new.files ≡ bytes_of self.old.files }
-        ensures later { NoneFalls (faults_in self.old.failed) (faults_in self.new.failed) }
-        ensures cause { IsErrOf result HostFail.Failed → RoseAt (faults_in self.old.failed CallKind.Read) (faults_in self.new.failed CallKind.Read) ((inputs_at self.old.inputs).name id.0) }
+        ensures gave { IfOk result (λ n.
+            Gave id.0 (host_inputs self.old) (host_inputs self.new) (take n buf.new)) }
+        ensures end { IfOk result (λ n. n ≡ 0 → IsAtEnd ((host_inputs self.new).held id.0)) }
+        ensures refused { OnErr result (host_inputs self.new ≡ host_inputs self.old) }
+        ensures frame { MovesInputsOnly host_outputs host_files host_faults self.old self.new }
+        ensures cause { IsErrOf result HostFail.Failed
+            → CountRose CallKind.Read ((host_inputs self.old).name id.0)
+            host_faults self.old self.new }
 
         // Beyond what every host keeps: it fails where it was told, and nowhere else.
-        ensures amount { IfOk result (λ n. IsSomeAnd ((inputs_at self.old.inputs).held id.0) (λ bytes. n ≡ min (min self.old.chunk (length buf.new)) (length bytes))) }
+        ensures amount { IfOk result (λ n. IsSomeAnd ((host_inputs self.old).held id.0) (λ bytes.
+            n ≡ min (min self.old.chunk (length buf.new)) (length bytes))) }
         ensures only_told { IsErrOf result HostFail.Failed → IsDue CallKind.Read self.old }
         ensures as_told { IsDue CallKind.Read self.old → IsErr result }
         ensures left { OnErr result (self.new.inputs ≡ self.old.inputs) }
-        ensures rest { self.new ≡ record (after_call CallKind.Read (unwrap_or ((inputs_at self.old.inputs).name id.0) []) result self.old) { inputs = self.new.inputs } }
+        ensures rest { self.new
+            ≡ record (after_call CallKind.Read ((host_inputs self.old).name id.0) result self.old) {
+              inputs = self.new.inputs;
+            } }
         ensures sure { self.old.planned ≡ [] → IsOk result × (self.new.failed ≡ self.old.failed) }
     {
         if is_due(&self.planned, &mut self.calls, CallKind::Read) {
@@ -162,20 +178,24 @@ impl Host for MemHost {
     }
 
     fn open_out(&mut self, name: &str) -> Result<OutId, HostFail>
-        ensures given { IfOk result (λ id. OpensOutput (outputs_at self.old.outputs) (outputs_at self.new.outputs) id.0 name.now) }
-        ensures refused { OnErr result (outputs_at self.new.outputs ≡ outputs_at self.old.outputs) }
-        ensures inputs { inputs_at self.new.inputs ≡ inputs_at self.old.inputs }
-        ensures files { bytes_of self.new.files ≡ bytes_of self.old.files }
-        ensures later { NoneFalls (faults_in self.old.failed) (faults_in self.new.failed) }
-        ensures cause { IsErrOf result HostFail.Failed → Rose (faults_in self.old.failed CallKind.OpenOut name.now) (faults_in self.new.failed CallKind.OpenOut name.now) }
+        ensures given { IfOk result (λ id.
+            OpensOutput (host_outputs self.old) (host_outputs self.new) id.0 name.now) }
+        ensures refused { OnErr result (host_outputs self.new ≡ host_outputs self.old) }
+        ensures frame { MovesOutputsOnly host_inputs host_files host_faults self.old self.new }
+        ensures cause { IsErrOf result HostFail.Failed
+            → CountRose CallKind.OpenOut (Some name.now) host_faults self.old self.new }
 
         // Beyond what every host keeps: it fails where it was told, and nowhere else.
         ensures place { IfOk result (λ id. id.0 ≡ length self.old.outputs) }
         ensures only_told { IsErrOf result HostFail.Failed → IsDue CallKind.OpenOut self.old }
         ensures as_told { IsDue CallKind.OpenOut self.old → IsErr result }
         ensures left { OnErr result (self.new.outputs ≡ self.old.outputs) }
-        ensures rest { self.new ≡ record (after_call CallKind.OpenOut name.now result self.old) { outputs = self.new.outputs } }
-        ensures sure { self.old.planned ≡ [] → IsOkUnless result HostFail.NoMemory × (self.new.failed ≡ self.old.failed) }
+        ensures rest { self.new
+            ≡ record (after_call CallKind.OpenOut (Some name.now) result self.old) {
+              outputs = self.new.outputs;
+            } }
+        ensures sure { self.old.planned ≡ []
+            → IsOkUnless result HostFail.NoMemory × (self.new.failed ≡ self.old.failed) }
     {
         if is_due(&self.planned, &mut self.calls, CallKind::OpenOut) {
             return Err(note(self.alloc, &mut self.failed, CallKind::OpenOut, name));
@@ -184,23 +204,29 @@ impl Host for MemHost {
     }
 
     fn write(&mut self, id: OutId, bytes: &[u8]) -> Result<usize, HostFail>
-        requires given { IsSome ((outputs_at self.old.outputs).name id.0) }
+        requires given { IsSome ((host_outputs self.old).name id.0) }
         requires some { 0 < length bytes.now }
         ensures bound { IfOk result (λ n. (0 < n) × (n ≤ length bytes.now)) }
-        ensures took { IfOk result (λ n. Took id.0 (outputs_at self.old.outputs) (outputs_at self.new.outputs) (take n bytes.now)) }
-        ensures refused { OnErr result (outputs_at self.new.outputs ≡ outputs_at self.old.outputs) }
-        ensures inputs { inputs_at self.new.inputs ≡ inputs_at self.old.inputs }
-        ensures files { bytes_of self.new.files ≡ bytes_of self.old.files }
-        ensures later { NoneFalls (faults_in self.old.failed) (faults_in self.new.failed) }
-        ensures cause { IsErrOf result HostFail.Failed → RoseAt (faults_in self.old.failed CallKind.Write) (faults_in self.new.failed CallKind.Write) ((outputs_at self.old.outputs).name id.0) }
+        ensures took { IfOk result (λ n.
+            Took id.0 (host_outputs self.old) (host_outputs self.new) (take n bytes.now)) }
+        ensures refused { OnErr result (host_outputs self.new ≡ host_outputs self.old) }
+        ensures frame { MovesOutputsOnly host_inputs host_files host_faults self.old self.new }
+        ensures cause { IsErrOf result HostFail.Failed
+            → CountRose CallKind.Write ((host_outputs self.old).name id.0)
+            host_faults self.old self.new }
 
         // Beyond what every host keeps: it fails where it was told, and nowhere else.
         ensures amount { IfOk result (λ n. n ≡ length bytes.now) }
         ensures only_told { IsErrOf result HostFail.Failed → IsDue CallKind.Write self.old }
         ensures as_told { IsDue CallKind.Write self.old → IsErr result }
         ensures left { OnErr result (self.new.outputs ≡ self.old.outputs) }
-        ensures rest { self.new ≡ record (after_call CallKind.Write (unwrap_or ((outputs_at self.old.outputs).name id.0) []) result self.old) { outputs = self.new.outputs } }
-        ensures sure { self.old.planned ≡ [] → IsOkUnless result HostFail.NoMemory × (self.new.failed ≡ self.old.failed) }
+        ensures rest { self.new
+            ≡ record (after_call CallKind.Write ((host_outputs self.old).name id.0)
+            result self.old) {
+              outputs = self.new.outputs;
+            } }
+        ensures sure { self.old.planned ≡ []
+            → IsOkUnless result HostFail.NoMemory × (self.new.failed ≡ self.old.failed) }
     {
         if is_due(&self.planned, &mut self.calls, CallKind::Write) {
             let name = outputs::name(&self.outputs, id);
@@ -210,6 +236,3 @@ impl Host for MemHost {
         Ok(bytes.len())
     }
 }
-
-#[cfg(test)]
-mod tests;

@@ -1,7 +1,7 @@
-ghost use Rattle.std.specs.Prelude.{◌≡◌, ◌<◌, ◌≤◌, ℕ, List, length, take, IfOk, OnOk, OnErr, IsSome, IsErrOf};
+ghost use Rattle.std.specs.Prelude.{◌≡◌, ◌<◌, ◌≤◌, length, take, IfOk, OnOk, OnErr, IsSome, IsErrOf};
 ghost use Rattle.std.specs.Io.KnownBytes.{IsAtEnd};
 ghost use Rattle.npd_host.specs.declared.host.CallKind.{CallKind};
-ghost use Rattle.npd_host.specs.Host.{Gave, Took, TookPart, NoneFalls, RoseAt};
+ghost use Rattle.npd_host.specs.Host.{Gave, GaveFewer, Took, TookPart, CountRose, MovesInputsOnly, MovesOutputsOnly};
 
 use crate::host::{Host, HostFail, InId, OutId};
 
@@ -10,13 +10,14 @@ use crate::host::{Host, HostFail, InId, OutId};
 pub fn fill<H: Host>(host: &mut H, id: InId, buf: &mut [u8]) -> Result<usize, HostFail>
     requires { IsSome ((H.inputs host.old).name id.0) }
     ensures bound { IfOk result (λ n. n ≤ length buf.new) }
-    ensures gave { IfOk result (λ n. Gave id.0 (H.inputs host.old) (H.inputs host.new) (take n buf.new)) }
+    ensures gave { IfOk result (λ n.
+        Gave id.0 (H.inputs host.old) (H.inputs host.new) (take n buf.new)) }
     ensures end { IfOk result (λ n. n < length buf.new → IsAtEnd ((H.inputs host.new).held id.0)) }
-    ensures fewer { OnErr result ((bytes : List ℕ) × (length bytes < length buf.new) × Gave id.0 (H.inputs host.old) (H.inputs host.new) bytes) }
-    ensures outputs { H.outputs host.new ≡ H.outputs host.old }
-    ensures files { H.files host.new ≡ H.files host.old }
-    ensures later { NoneFalls (H.faults host.old) (H.faults host.new) }
-    ensures cause { IsErrOf result HostFail.Failed → RoseAt (H.faults host.old CallKind.Read) (H.faults host.new CallKind.Read) ((H.inputs host.old).name id.0) }
+    ensures fewer { OnErr result
+        (GaveFewer id.0 (H.inputs host.old) (H.inputs host.new) (length buf.new)) }
+    ensures frame { MovesInputsOnly H.outputs H.files H.faults host.old host.new }
+    ensures cause { IsErrOf result HostFail.Failed
+        → CountRose CallKind.Read ((H.inputs host.old).name id.0) H.faults host.old host.new }
 {
     let mut done = 0;
     while done < buf.len() {
@@ -33,11 +34,11 @@ pub fn fill<H: Host>(host: &mut H, id: InId, buf: &mut [u8]) -> Result<usize, Ho
 pub fn write_all<H: Host>(host: &mut H, id: OutId, bytes: &[u8]) -> Result<(), HostFail>
     requires { IsSome ((H.outputs host.old).name id.0) }
     ensures took { OnOk result (Took id.0 (H.outputs host.old) (H.outputs host.new) bytes.now) }
-    ensures part { OnErr result (TookPart id.0 (H.outputs host.old) (H.outputs host.new) bytes.now) }
-    ensures inputs { H.inputs host.new ≡ H.inputs host.old }
-    ensures files { H.files host.new ≡ H.files host.old }
-    ensures later { NoneFalls (H.faults host.old) (H.faults host.new) }
-    ensures cause { IsErrOf result HostFail.Failed → RoseAt (H.faults host.old CallKind.Write) (H.faults host.new CallKind.Write) ((H.outputs host.old).name id.0) }
+    ensures part { OnErr result
+        (TookPart id.0 (H.outputs host.old) (H.outputs host.new) bytes.now) }
+    ensures frame { MovesOutputsOnly H.inputs H.files H.faults host.old host.new }
+    ensures cause { IsErrOf result HostFail.Failed
+        → CountRose CallKind.Write ((H.outputs host.old).name id.0) H.faults host.old host.new }
 {
     let mut done = 0;
     while done < bytes.len() {

@@ -14,13 +14,13 @@ pub record IsWhole (most : ℕ) (seen : Seen) (packets : List Packet) : Type 0 w
   pub few : length packets ≤ most
 
 -- the next packet of what is left to see, or its end
-abbrev pub NextIs : Result (Option Packet) Status → Seen → Option Seen → Type 0
-NextIs (Ok (Some packet)) seen after = (rest : Seen) × (after ≡ Some rest) × (seen ≡ with_front (packet ∷ []) rest)
-NextIs (Ok None) seen after = seen ≡ whole_end
-NextIs (Err (Read Cap)) seen after = Unit {0}
-NextIs (Err NoMemory) seen after = Unit {0}
-NextIs (Err (Unbuilt part.Capture)) seen after = seen ≡ broken_end
-NextIs (Err other) seen after = ⊥
+abbrev pub NextIs : Result (Option Packet) Status → Option Seen → Seen → Type 0
+NextIs (Ok (Some packet)) left seen = (rest : Seen) × (left ≡ Some rest) × (seen ≡ with_front (packet ∷ []) rest)
+NextIs (Ok None) left seen = seen ≡ whole_end
+NextIs (Err (Read Cap)) left seen = Unit {0}
+NextIs (Err NoMemory) left seen = Unit {0}
+NextIs (Err (Unbuilt part.Capture)) left seen = seen ≡ broken_end
+NextIs (Err other) left seen = ⊥
 
 -- the packets of what is seen, where it ends whole with at most so many
 abbrev pub PacketsAre : ℕ → Result (List Packet) Status → Seen → Type 0

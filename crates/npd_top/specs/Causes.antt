@@ -1,4 +1,4 @@
--- Which count of faults rose for a status that a part of a run gives up with.
+-- Which status a part of a run gives up with, and which count of faults rose for it.
 use Rattle.std.specs.Prelude.{ℕ, List, Option}
 use Rattle.npd_host.specs.declared.host.CallKind.{CallKind}
 use Rattle.npd_host.specs.declared.host.CallKind.TheVariants as call
@@ -12,56 +12,61 @@ use Rattle.npd_top.specs.declared.status.Part.TheVariants as part
 use Rattle.npd_top.specs.declared.status.Status.{Status}
 use Rattle.npd_top.specs.declared.status.Status.TheVariants.{Open, Read, Write, NoMemory, Unbuilt}
 
+-- the status where a host refused a call: this one, or want of memory
+abbrev pub refusal : Status → HostFail → Status
+refusal failed host.Failed = failed
+refusal failed host.NoMemory = NoMemory
+
 -- the status for each failure of a reader of captures
 abbrev pub capture_status : CapFail → Status
 capture_status fail.Broken = Unbuilt part.Capture
 capture_status fail.ReadFault = Read Cap
 capture_status fail.NoMemory = NoMemory
 
--- a capture is read on until its end: a read fault raised the count of reads of its input; no other status comes
-abbrev pub HasReadCause : Status → (List ℕ → ℕ) → (List ℕ → ℕ) → Option (List ℕ) → Type 0
-HasReadCause (Read Cap) before now name = RoseAt before now name
-HasReadCause NoMemory before now name = Unit {0}
-HasReadCause (Unbuilt part.Capture) before now name = Unit {0}
-HasReadCause other before now name = ⊥
+-- the count of a kind of call rose on a name
+abbrev pub RoseOn : CallKind → List ℕ → (CallKind → List ℕ → ℕ) → (CallKind → List ℕ → ℕ) → Type 0
+RoseOn kind name before now = Rose (before kind name) (now kind name)
 
--- a capture is opened and read to its end
-abbrev pub HasCaptureCause : Status → (CallKind → List ℕ → ℕ) → (CallKind → List ℕ → ℕ) → List ℕ → Type 0
-HasCaptureCause (Open Cap) before now name = Rose (before call.OpenIn name) (now call.OpenIn name)
-HasCaptureCause (Read Cap) before now name = Rose (before call.Read name) (now call.Read name)
-HasCaptureCause NoMemory before now name = Unit {0}
-HasCaptureCause (Unbuilt part.Capture) before now name = Unit {0}
-HasCaptureCause other before now name = ⊥
-
--- the status for each failure of a call on the host
-abbrev pub host_status : Status → HostFail → Status
-host_status failed host.Failed = failed
-host_status failed host.NoMemory = NoMemory
+-- the count of a kind of call rose on an id's name
+abbrev pub RoseOnId : CallKind → Option (List ℕ) → (CallKind → List ℕ → ℕ) → (CallKind → List ℕ → ℕ) → Type 0
+RoseOnId kind name before now = RoseAt (before kind) (now kind) name
 
 -- the database file is opened and read
-abbrev pub HasTextCause : Status → (CallKind → List ℕ → ℕ) → (CallKind → List ℕ → ℕ) → List ℕ → Type 0
-HasTextCause (Open Db) before now name = Rose (before call.OpenIn name) (now call.OpenIn name)
-HasTextCause (Read Db) before now name = Rose (before call.Read name) (now call.Read name)
-HasTextCause NoMemory before now name = Unit {0}
-HasTextCause other before now name = ⊥
+abbrev pub HasTextCause : List ℕ → (CallKind → List ℕ → ℕ) → (CallKind → List ℕ → ℕ) → Status → Type 0
+HasTextCause name before now (Open Db) = RoseOn call.OpenIn name before now
+HasTextCause name before now (Read Db) = RoseOn call.Read name before now
+HasTextCause name before now NoMemory = Unit {0}
+HasTextCause name before now other = ⊥
 
 -- a database is opened, read and checked
-abbrev pub HasDatabaseCause : Status → (CallKind → List ℕ → ℕ) → (CallKind → List ℕ → ℕ) → List ℕ → Type 0
-HasDatabaseCause (Open Db) before now name = Rose (before call.OpenIn name) (now call.OpenIn name)
-HasDatabaseCause (Read Db) before now name = Rose (before call.Read name) (now call.Read name)
-HasDatabaseCause NoMemory before now name = Unit {0}
-HasDatabaseCause (Unbuilt part.Database) before now name = Unit {0}
-HasDatabaseCause other before now name = ⊥
+abbrev pub HasDatabaseCause : List ℕ → (CallKind → List ℕ → ℕ) → (CallKind → List ℕ → ℕ) → Status → Type 0
+HasDatabaseCause name before now (Unbuilt part.Database) = Unit {0}
+HasDatabaseCause name before now status = HasTextCause name before now status
+
+-- an open capture is read to its end
+abbrev pub HasReadCause : Option (List ℕ) → (CallKind → List ℕ → ℕ) → (CallKind → List ℕ → ℕ) → Status → Type 0
+HasReadCause name before now (Read Cap) = RoseOnId call.Read name before now
+HasReadCause name before now NoMemory = Unit {0}
+HasReadCause name before now (Unbuilt part.Capture) = Unit {0}
+HasReadCause name before now other = ⊥
+
+-- a capture is opened and read to its end
+abbrev pub HasCaptureCause : List ℕ → (CallKind → List ℕ → ℕ) → (CallKind → List ℕ → ℕ) → Status → Type 0
+HasCaptureCause name before now (Open Cap) = RoseOn call.OpenIn name before now
+HasCaptureCause name before now (Read Cap) = RoseOn call.Read name before now
+HasCaptureCause name before now NoMemory = Unit {0}
+HasCaptureCause name before now (Unbuilt part.Capture) = Unit {0}
+HasCaptureCause name before now other = ⊥
 
 -- pieces are written to an open output
-abbrev pub HasWriteCause : Status → (List ℕ → ℕ) → (List ℕ → ℕ) → Option (List ℕ) → Type 0
-HasWriteCause (Write Pdml) before now name = RoseAt before now name
-HasWriteCause NoMemory before now name = Unit {0}
-HasWriteCause other before now name = ⊥
+abbrev pub HasWriteCause : Option (List ℕ) → (CallKind → List ℕ → ℕ) → (CallKind → List ℕ → ℕ) → Status → Type 0
+HasWriteCause name before now (Write Pdml) = RoseOnId call.Write name before now
+HasWriteCause name before now NoMemory = Unit {0}
+HasWriteCause name before now other = ⊥
 
 -- an output is opened and written
-abbrev pub HasOutputCause : Status → (CallKind → List ℕ → ℕ) → (CallKind → List ℕ → ℕ) → List ℕ → Type 0
-HasOutputCause (Open Pdml) before now name = Rose (before call.OpenOut name) (now call.OpenOut name)
-HasOutputCause (Write Pdml) before now name = Rose (before call.Write name) (now call.Write name)
-HasOutputCause NoMemory before now name = Unit {0}
-HasOutputCause other before now name = ⊥
+abbrev pub HasOutputCause : List ℕ → (CallKind → List ℕ → ℕ) → (CallKind → List ℕ → ℕ) → Status → Type 0
+HasOutputCause name before now (Open Pdml) = RoseOn call.OpenOut name before now
+HasOutputCause name before now (Write Pdml) = RoseOn call.Write name before now
+HasOutputCause name before now NoMemory = Unit {0}
+HasOutputCause name before now other = ⊥

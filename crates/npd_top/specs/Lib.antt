@@ -1,6 +1,8 @@
 pub mod Capture
 pub mod Causes
 pub mod Decoding
+pub mod Laws
+pub mod Outside
 pub mod Pdml
 pub mod Reader
 pub mod Reading

@@ -1,9 +1,8 @@
--- What a run comes to: which status comes where, what it shows, and what the output has taken then.
-use Rattle.std.specs.Prelude.{◌≡◌, ◌⊎◌, ℕ, List, [], ◌++◌, ◌<◌, length, Option, Some, Result, Ok, Err, IfSome}
+-- What a run comes to: which status comes where, which files are opened, and what the output has taken then.
+use Rattle.std.specs.Prelude.{◌≡◌, ◌⊎◌, ℕ, List, [], ◌∷◌, ◌++◌, ◌<◌, length, Result, Ok, Err, IfSome}
 use Rattle.db_model.specs.declared.packet.Packet.{Packet}
-use Rattle.npd_host.specs.declared.host.CallKind.{CallKind}
 use Rattle.npd_host.specs.declared.host.CallKind.TheVariants as call
-use Rattle.npd_host.specs.Host.{Outputs, Rose}
+use Rattle.npd_host.specs.Host.{Rose}
 use Rattle.pcap_in.specs.Capture.{cap}
 use Rattle.npd_top.specs.declared.plan.Plan.{Plan}
 use Rattle.npd_top.specs.declared.simple.SimpleProtocol.{SimpleProtocol}
@@ -12,9 +11,10 @@ use Rattle.npd_top.specs.declared.status.Part.TheVariants as part
 use Rattle.npd_top.specs.declared.status.Status.{Status}
 use Rattle.npd_top.specs.declared.status.Status.TheVariants.{Done, Open, Read, Write, NoMemory, Unbuilt}
 use Rattle.npd_top.specs.Capture.{IsWhole}
+use Rattle.npd_top.specs.Outside.{Outside, Opened}
 use Rattle.npd_top.specs.Pdml.{whole_text}
 use Rattle.npd_top.specs.SimpleText.{IsSimple}
-use Rattle.npd_top.specs.Words.{Asks}
+use Rattle.npd_top.specs.Words.{Asks, AsksNothing}
 use Rattle.npd_top.specs.Written.{Wrote, WroteFront, WrotePart}
 
 -- at most so many bytes of an input: all of it, where there are fewer
@@ -23,10 +23,18 @@ pub record FrontOf (most : ℕ) (front whole : List ℕ) : Type 0 where
   pub parts : whole ≡ front ++ rest
   pub end : length front < most → rest ≡ []
 
+-- no simple database is spelled so
+abbrev pub IsNotSimple : List ℕ → Type 0
+IsNotSimple text = (db : List SimpleProtocol) → IsSimple text db → ⊥
+
+-- no whole capture of at most 4,294,967,295 packets is written so
+abbrev pub IsNotWhole : List ℕ → Type 0
+IsNotWhole bytes = (packets : List Packet) → IsWhole 4294967295 (cap bytes) packets → ⊥
+
 -- what a database file is, by how the loading of it ended
 abbrev pub DatabaseIs : Result (List SimpleProtocol) Status → List ℕ → Type 0
 DatabaseIs (Ok db) text = IsSimple text db
-DatabaseIs (Err (Unbuilt part.Database)) text = (db : List SimpleProtocol) → IsSimple text db → ⊥
+DatabaseIs (Err (Unbuilt part.Database)) text = IsNotSimple text
 DatabaseIs (Err other) text = Unit {0}
 
 -- a simple database
@@ -42,64 +50,78 @@ pub record HasBoth (text bytes : List ℕ) : Type 0 where
   pub packets_are : IsWhole 4294967295 (cap bytes) packets
 
 -- the database file, where it is told, is simple
-abbrev pub FindsDatabase : Plan → (List ℕ → Option (List ℕ)) → Type 0
-FindsDatabase plan files = IfSome (files plan.db) HasDatabase
+abbrev pub FindsDatabase : Plan → Outside → Type 0
+FindsDatabase plan before = IfSome (before.files plan.db) HasDatabase
 
 -- the files, where they are told, are a simple database and a whole capture, and this holds of their PDML text
-abbrev pub FindsBoth : Plan → (List ℕ → Option (List ℕ)) → (List ℕ → Type 0) → Type 0
-FindsBoth plan files Holds =
-    IfSome (files plan.db) (λ text. IfSome (files plan.cap) (λ bytes. (both : HasBoth text bytes) × Holds (whole_text both.db both.packets)))
+abbrev pub FindsBoth : Plan → Outside → (List ℕ → Type 0) → Type 0
+FindsBoth plan before Holds =
+    IfSome (before.files plan.db) (λ text.
+    IfSome (before.files plan.cap) (λ bytes.
+    (both : HasBoth text bytes) × Holds (whole_text both.db both.packets)))
 
--- what each status says of the files and of the outputs before and after; those that end in ⊥ never come
-abbrev pub Says : Status → Plan → (List ℕ → Option (List ℕ)) → Outputs → Outputs → Type 0
-Says Done plan files old new = FindsBoth plan files (λ text. Wrote old new plan.pdml text)
-Says (Open Db) plan files old new = new ≡ old
-Says (Open Cap) plan files old new = (new ≡ old) × FindsDatabase plan files
-Says (Open Pdml) plan files old new = (new ≡ old) × FindsBoth plan files (λ text. Unit {0})
-Says (Read Db) plan files old new = new ≡ old
-Says (Read Cap) plan files old new = (new ≡ old) × FindsDatabase plan files
-Says (Read Pdml) plan files old new = ⊥
-Says (Write Db) plan files old new = ⊥
-Says (Write Cap) plan files old new = ⊥
-Says (Write Pdml) plan files old new = FindsBoth plan files (λ text. WrotePart old new plan.pdml text)
-Says NoMemory plan files old new = (new ≡ old) ⊎ FindsBoth plan files (λ text. WroteFront old new plan.pdml text)
-Says (Unbuilt part.Words) plan files old new = ⊥
-Says (Unbuilt part.Database) plan files old new =
-    (new ≡ old) × IfSome (files plan.db) (λ text. (db : List SimpleProtocol) → IsSimple text db → ⊥)
-Says (Unbuilt part.Capture) plan files old new =
-    (new ≡ old) × FindsDatabase plan files
-    × IfSome (files plan.cap) (λ bytes. (packets : List Packet) → IsWhole 4294967295 (cap bytes) packets → ⊥)
+-- no output was touched
+abbrev pub WroteNothing : Outside → Outside → Type 0
+WroteNothing before after = after.outputs ≡ before.outputs
+
+-- what each status says of the files, and of the outputs before and after; those that end in ⊥ never come
+abbrev pub Says : Status → Plan → Outside → Outside → Type 0
+Says Done plan before after = FindsBoth plan before (Wrote before.outputs after.outputs plan.pdml)
+Says (Open Db) plan before after = WroteNothing before after
+Says (Open Cap) plan before after = WroteNothing before after × FindsDatabase plan before
+Says (Open Pdml) plan before after = WroteNothing before after × FindsBoth plan before (λ text. Unit {0})
+Says (Read Db) plan before after = WroteNothing before after
+Says (Read Cap) plan before after = WroteNothing before after × FindsDatabase plan before
+Says (Read Pdml) plan before after = ⊥
+Says (Write Db) plan before after = ⊥
+Says (Write Cap) plan before after = ⊥
+Says (Write Pdml) plan before after = FindsBoth plan before (WrotePart before.outputs after.outputs plan.pdml)
+Says NoMemory plan before after =
+    WroteNothing before after ⊎ FindsBoth plan before (WroteFront before.outputs after.outputs plan.pdml)
+Says (Unbuilt part.Words) plan before after = ⊥
+Says (Unbuilt part.Database) plan before after =
+    WroteNothing before after × IfSome (before.files plan.db) IsNotSimple
+Says (Unbuilt part.Capture) plan before after =
+    WroteNothing before after × FindsDatabase plan before × IfSome (before.files plan.cap) IsNotWhole
+
+-- which files were opened, whatever the host tells: the database first, the capture only behind an accepted database,
+-- the output only behind a whole capture
+abbrev pub Opens : Status → Plan → Outside → Outside → Type 0
+Opens Done plan before after = Opened (plan.db ∷ plan.cap ∷ []) (plan.pdml ∷ []) before after
+Opens (Open Db) plan before after = Opened [] [] before after
+Opens (Open Cap) plan before after = Opened (plan.db ∷ []) [] before after
+Opens (Open Pdml) plan before after = Opened (plan.db ∷ plan.cap ∷ []) [] before after
+Opens (Read Db) plan before after = Opened (plan.db ∷ []) [] before after
+Opens (Read Cap) plan before after = Opened (plan.db ∷ plan.cap ∷ []) [] before after
+Opens (Write Pdml) plan before after = Opened (plan.db ∷ plan.cap ∷ []) (plan.pdml ∷ []) before after
+Opens NoMemory plan before after =
+    Opened [] [] before after ⊎ Opened (plan.db ∷ []) [] before after
+    ⊎ Opened (plan.db ∷ plan.cap ∷ []) [] before after
+    ⊎ Opened (plan.db ∷ plan.cap ∷ []) (plan.pdml ∷ []) before after
+Opens (Unbuilt part.Database) plan before after = Opened (plan.db ∷ []) [] before after
+Opens (Unbuilt part.Capture) plan before after = Opened (plan.db ∷ plan.cap ∷ []) [] before after
+Opens never plan before after = ⊥
 
 -- which count rose in this call: that of the kind of call and of the role's own name
-abbrev pub HasCause : Status → Plan → (CallKind → List ℕ → ℕ) → (CallKind → List ℕ → ℕ) → Type 0
-HasCause (Open Db) plan before now = Rose (before call.OpenIn plan.db) (now call.OpenIn plan.db)
-HasCause (Open Cap) plan before now = Rose (before call.OpenIn plan.cap) (now call.OpenIn plan.cap)
-HasCause (Open Pdml) plan before now = Rose (before call.OpenOut plan.pdml) (now call.OpenOut plan.pdml)
-HasCause (Read Db) plan before now = Rose (before call.Read plan.db) (now call.Read plan.db)
-HasCause (Read Cap) plan before now = Rose (before call.Read plan.cap) (now call.Read plan.cap)
-HasCause (Write Pdml) plan before now = Rose (before call.Write plan.pdml) (now call.Write plan.pdml)
-HasCause _ plan before now = Unit {0}
+abbrev pub HasCause : Status → Plan → Outside → Outside → Type 0
+HasCause (Open Db) plan before after = Rose (before.faults call.OpenIn plan.db) (after.faults call.OpenIn plan.db)
+HasCause (Open Cap) plan before after = Rose (before.faults call.OpenIn plan.cap) (after.faults call.OpenIn plan.cap)
+HasCause (Open Pdml) plan before after = Rose (before.faults call.OpenOut plan.pdml) (after.faults call.OpenOut plan.pdml)
+HasCause (Read Db) plan before after = Rose (before.faults call.Read plan.db) (after.faults call.Read plan.db)
+HasCause (Read Cap) plan before after = Rose (before.faults call.Read plan.cap) (after.faults call.Read plan.cap)
+HasCause (Write Pdml) plan before after = Rose (before.faults call.Write plan.pdml) (after.faults call.Write plan.pdml)
+HasCause other plan before after = Unit {0}
 
 -- the words ask for a plan, and the status says this of it
-pub record RunsPlan (status : Status) (words : List (List ℕ)) (files : List ℕ → Option (List ℕ)) (old new : Outputs)
-    (before now : CallKind → List ℕ → ℕ) : Type 0 where
+pub record RunsPlan (status : Status) (words : List (List ℕ)) (before after : Outside) : Type 0 where
   pub plan : Plan
   pub asked : Asks words plan
-  pub says : Says status plan files old new
-  pub cause : HasCause status plan before now
+  pub opens : Opens status plan before after
+  pub says : Says status plan before after
+  pub cause : HasCause status plan before after
 
--- what a status means for the words, the told files, the outputs and the counts of faults
-abbrev pub Means : Status → List (List ℕ) → (List ℕ → Option (List ℕ)) → Outputs → Outputs → (CallKind → List ℕ → ℕ) → (CallKind → List ℕ → ℕ) → Type 0
-Means (Unbuilt part.Words) words files old new before now = (new ≡ old) × ((plan : Plan) → Asks words plan → ⊥)
-Means NoMemory words files old new before now = (new ≡ old) ⊎ RunsPlan NoMemory words files old new before now
-Means status words files old new before now = RunsPlan status words files old new before now
-
--- no count of faults rose, and none stands at its last value
-abbrev pub NoneRose : (CallKind → List ℕ → ℕ) → (CallKind → List ℕ → ℕ) → Type 0
-NoneRose before now = (kind : CallKind) (name : List ℕ) → Rose (before kind name) (now kind name) → ⊥
-
--- served words, a simple database, a whole capture, and no count that rose: all is done, unless memory was refused
-abbrev pub IsComplete : Status → List (List ℕ) → (List ℕ → Option (List ℕ)) → (CallKind → List ℕ → ℕ) → (CallKind → List ℕ → ℕ) → Type 0
-IsComplete status words files before now =
-    (plan : Plan) (text bytes : List ℕ) → Asks words plan → files plan.db ≡ Some text → files plan.cap ≡ Some bytes → HasBoth text bytes
-    → NoneRose before now → (status ≡ Done) ⊎ (status ≡ NoMemory)
+-- what a status means for the words, and for the host before and after
+abbrev pub Means : Status → List (List ℕ) → Outside → Outside → Type 0
+Means (Unbuilt part.Words) words before after = (after ≡ before) × AsksNothing words
+Means NoMemory words before after = (after ≡ before) ⊎ RunsPlan NoMemory words before after
+Means status words before after = RunsPlan status words before after

@@ -25,3 +25,7 @@ pub record Asks (words : List (List ℕ)) (plan : Plan) : Type 0 where
   pub db_is_not_cap : plan.db ≢ plan.cap
   pub db_is_not_pdml : plan.db ≢ plan.pdml
   pub cap_is_not_pdml : plan.cap ≢ plan.pdml
+
+-- these words ask for no plan
+abbrev pub AsksNothing : List (List ℕ) → Type 0
+AsksNothing words = (plan : Plan) → Asks words plan → ⊥

@@ -1,14 +1,14 @@
 ghost use Rattle.std.specs.Prelude.{◌≡◌, IsTrue, IsSome, IfSome, IfErr, IfOk};
-ghost use Rattle.npd_host.specs.declared.host.CallKind.{CallKind};
-ghost use Rattle.npd_host.specs.Host.{NoneFalls, Rose, RoseAt};
+ghost use Rattle.npd_host.specs.Host.{MovesInputsOnly};
 ghost use Rattle.pcap_in.specs.Reader.{is_usable, left, InReach};
 ghost use Rattle.pcap_in.specs.Capture.{cap};
 ghost use Rattle.npd_top.specs.Capture.{NextIs, PacketsAre, CaptureIs};
 ghost use Rattle.npd_top.specs.Causes.{capture_status, HasReadCause, HasCaptureCause};
+ghost use Rattle.npd_top.specs.Outside.{OpensOne};
 
-use crate::status::{Part, Role, Status};
+use crate::status::{Part, Role, Status, refused};
 use db_model::Packet;
-use npd_host::{Host, HostFail};
+use npd_host::Host;
 use pcap_in::{CapFail, CapReader, Next};
 use sqlite_items::Items;
 use std::alloc::Global;
@@ -31,15 +31,16 @@ fn next_packet<H: Host>(host: &mut H, reader: &mut CapReader) -> Result<Option<P
     requires usable { IsTrue (is_usable reader.old.state) }
     requires given { IsSome ((H.inputs host.old).name reader.old.id.0) }
     requires reach { InReach reader.old (H.inputs host.old) }
-    ensures next { IfSome (left reader.old (H.inputs host.old)) (λ seen. NextIs result seen (left reader.new (H.inputs host.new))) }
+    ensures next { IfSome (left reader.old (H.inputs host.old))
+        (NextIs result (left reader.new (H.inputs host.new))) }
     ensures id { reader.new.id ≡ reader.old.id }
     ensures usable { IfOk result (λ _. IsTrue (is_usable reader.new.state)) }
     ensures reach { InReach reader.new (H.inputs host.new) }
+    ensures opened { (H.inputs host.new).opened ≡ (H.inputs host.old).opened }
     ensures names { (H.inputs host.new).name ≡ (H.inputs host.old).name }
-    ensures outputs { H.outputs host.new ≡ H.outputs host.old }
-    ensures files { H.files host.new ≡ H.files host.old }
-    ensures later { NoneFalls (H.faults host.old) (H.faults host.new) }
-    ensures cause { IfErr result (λ status. HasReadCause status (H.faults host.old CallKind.Read) (H.faults host.new CallKind.Read) ((H.inputs host.old).name reader.old.id.0)) }
+    ensures frame { MovesInputsOnly H.outputs H.files H.faults host.old host.new }
+    ensures cause { IfErr result (HasReadCause ((H.inputs host.old).name reader.old.id.0)
+        (H.faults host.old) (H.faults host.new)) }
 {
     match reader.next(host) {
         Ok(Next::Packet(packet)) => Ok(Some(packet)),
@@ -59,10 +60,10 @@ fn read_packets<H: Host>(
     requires given { IsSome ((H.inputs host.old).name reader.id.0) }
     requires reach { InReach reader (H.inputs host.old) }
     ensures packets { IfSome (left reader (H.inputs host.old)) (PacketsAre most result) }
-    ensures outputs { H.outputs host.new ≡ H.outputs host.old }
-    ensures files { H.files host.new ≡ H.files host.old }
-    ensures later { NoneFalls (H.faults host.old) (H.faults host.new) }
-    ensures cause { IfErr result (λ status. HasReadCause status (H.faults host.old CallKind.Read) (H.faults host.new CallKind.Read) ((H.inputs host.old).name reader.id.0)) }
+    ensures opened { (H.inputs host.new).opened ≡ (H.inputs host.old).opened }
+    ensures frame { MovesInputsOnly H.outputs H.files H.faults host.old host.new }
+    ensures cause { IfErr result (HasReadCause ((H.inputs host.old).name reader.id.0)
+        (H.faults host.old) (H.faults host.new)) }
 {
     let mut packets = Items::new(alloc);
     for _count in 0..most {
@@ -86,16 +87,16 @@ pub fn read_capture<H: Host>(
     name: &str,
     most: u32,
 ) -> Result<Items<Packet>, Status>
-    ensures packets { IfSome (H.files host.old name.now) (λ bytes. CaptureIs most result (cap bytes)) }
-    ensures outputs { H.outputs host.new ≡ H.outputs host.old }
-    ensures files { H.files host.new ≡ H.files host.old }
-    ensures later { NoneFalls (H.faults host.old) (H.faults host.new) }
-    ensures cause { IfErr result (λ status. HasCaptureCause status (H.faults host.old) (H.faults host.new) name.now) }
+    ensures packets { IfSome (H.files host.old name.now) (λ bytes.
+        CaptureIs most result (cap bytes)) }
+    ensures opens { OpensOne name.now (H.inputs host.old).opened (H.inputs host.new).opened result }
+    ensures frame { MovesInputsOnly H.outputs H.files H.faults host.old host.new }
+    ensures cause { IfErr result (HasCaptureCause name.now
+        (H.faults host.old) (H.faults host.new)) }
 {
     let id = match host.open_in(name) {
         Ok(id) => id,
-        Err(HostFail::Failed) => return Err(Status::Open { role: Role::Cap }),
-        Err(HostFail::NoMemory) => return Err(Status::NoMemory),
+        Err(fail) => return Err(refused(fail, Status::Open { role: Role::Cap })),
     };
     match CapReader::begin(alloc, host, id) {
         Ok(reader) => read_packets(alloc, host, reader, most),

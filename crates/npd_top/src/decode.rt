@@ -1,5 +1,6 @@
 ghost use Rattle.std.specs.Prelude.{◌≡◌, ◌+◌, ◌<◌, ◌≤◌, take, drop, IfOk, length, slice_get};
 ghost use Rattle.std.specs.Option.{option_copied};
+ghost use Rattle.db_model.specs.declared.limits.TheConstants.{MOST_PROTOCOLS};
 ghost use Rattle.npd_top.specs.Decoding;
 
 use crate::simple::{SimpleField, SimpleProtocol};
@@ -17,7 +18,7 @@ const MORE_PROTOCOLS: u32 = 31;
 pub const PAYLOAD: u16 = 65_535;
 
 /// What the fields of a protocol come to.
-#[derive(Debug, Drop)]
+#[derive(Drop)]
 pub struct Went {
     pub nodes: Items<Node>,
     /// The position behind them.
@@ -29,7 +30,7 @@ pub struct Went {
 }
 
 /// The protocols of a packet, and the position behind them.
-#[derive(Debug, Drop)]
+#[derive(Drop)]
 pub struct Chain {
     pub protos: Items<Proto>,
     pub at: u32,
@@ -45,7 +46,8 @@ fn field_node(
 ) -> Result<Node, NoMemory>
     requires within { at + size ≤ length bytes.now }
     requires bound { length bytes.now ≤ MOST_BYTES }
-    ensures { IfOk result (λ node. node ≡ Node.Field number at size (take size (drop at bytes.now))) }
+    ensures { IfOk result (λ node.
+        node ≡ Node.Field number at size (take size (drop at bytes.now))) }
 {
     let value = &bytes[at as usize..(at + size) as usize];
     Ok(Node::Field {
@@ -80,7 +82,8 @@ fn decode_fields(
 ) -> Result<Went, NoMemory>
     requires within { at ≤ length bytes.now }
     requires bound { length bytes.now ≤ MOST_BYTES }
-    ensures meaning { IfOk result (λ went. went ≡ Decoding.fields_from 0 at room fields.now bytes.now) }
+    ensures meaning { IfOk result (λ went.
+        went ≡ Decoding.fields_from 0 at room fields.now bytes.now) }
     ensures within { IfOk result (λ went. went.at ≤ length bytes.now) }
     ensures onward { IfOk result (λ went. at ≤ went.at) }
 {
@@ -125,7 +128,7 @@ fn place_of(db: &[SimpleProtocol], name: &[u8]) -> usize
 /// The protocol that a decoding goes on with: none where a reason stopped it, where no byte is left, or where the
 /// protocol names none.
 fn chosen(db: &[SimpleProtocol], next: Option<&Name>, end: usize, went: &Went) -> Option<u16>
-    requires few { length db.now ≤ 1024 }
+    requires few { length db.now ≤ MOST_PROTOCOLS }
     ensures value { result ≡ Decoding.chosen db.now (option_copied next.entry) end went.now }
 {
     if went.is_stopped || went.at as usize == end {
@@ -185,9 +188,10 @@ fn decode_chain(
     mut room: u32,
     bytes: &[u8],
 ) -> Result<Chain, NoMemory>
-    requires few { length db.now ≤ 1024 }
+    requires few { length db.now ≤ MOST_PROTOCOLS }
     requires bound { length bytes.now ≤ MOST_BYTES }
-    ensures meaning { IfOk result (λ chain. chain ≡ Decoding.chain more db.now first 0 room bytes.now) }
+    ensures meaning { IfOk result (λ chain.
+        chain ≡ Decoding.chain more db.now first 0 room bytes.now) }
     ensures within { IfOk result (λ chain. chain.at ≤ length bytes.now) }
 {
     let mut protos = Items::new(alloc);
@@ -239,7 +243,7 @@ fn push_payload(alloc: Global, chain: Chain, bytes: &[u8]) -> Result<PacketTree,
 /// Decodes one packet.
 #[tactic(auto, unfolding(crate::specs::Decoding::tree_of))]
 pub fn decode(alloc: Global, db: &[SimpleProtocol], bytes: &[u8]) -> Result<PacketTree, NoMemory>
-    requires few { length db.now ≤ 1024 }
+    requires few { length db.now ≤ MOST_PROTOCOLS }
     requires bound { length bytes.now ≤ MOST_BYTES }
     ensures { IfOk result (λ tree. tree ≡ Decoding.tree_of db.now bytes.now) }
 {

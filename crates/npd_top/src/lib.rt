@@ -4,6 +4,8 @@
 
 mod capture;
 mod decode;
+mod laws;
+mod limits;
 mod load;
 mod markup;
 mod output;
@@ -14,11 +16,9 @@ mod run;
 mod simple;
 mod status;
 
+pub use laws::a_run_ends_well;
 pub use plan::Plan;
 pub use reader::{ReadFail, read_database, spells_one_database};
 pub use run::run_serial;
 pub use simple::{SimpleDb, SimpleField, SimpleProtocol};
 pub use status::{Part, Role, Status};
-
-#[cfg(test)]
-mod tests;

@@ -1,23 +1,16 @@
-ghost use Rattle.std.specs.Prelude.{◌≡◌, ◌<◌, ◌≤◌, length, IfSome, IfErr, IfOk};
-ghost use Rattle.npd_host.specs.Host.{NoneFalls};
-ghost use Rattle.npd_top.specs.Causes.{host_status, HasTextCause, HasDatabaseCause};
+ghost use Rattle.std.specs.Prelude.{◌<◌, ◌≤◌, length, IfSome, IfErr, IfOk};
+ghost use Rattle.npd_host.specs.Host.{MovesInputsOnly};
+ghost use Rattle.db_model.specs.declared.limits.TheConstants.{MOST_PROTOCOLS};
+ghost use Rattle.npd_top.specs.declared.limits.TheConstants.{MOST_DATABASE};
+ghost use Rattle.npd_top.specs.Causes.{HasTextCause, HasDatabaseCause};
+ghost use Rattle.npd_top.specs.Outside.{OpensOne};
 ghost use Rattle.npd_top.specs.Run.{FrontOf, DatabaseIs};
 
 use crate::reader::{ReadFail, read_database};
 use crate::simple::SimpleDb;
-use crate::status::{Part, Role, Status};
-use npd_host::{Host, HostFail, fill};
+use crate::status::{Part, Role, Status, refused};
+use npd_host::{Host, fill};
 use std::alloc::Global;
-
-/// The status of a database file that can't be read.
-fn status_of(fail: HostFail, failed: Status) -> Status
-    ensures { result ≡ host_status failed fail }
-{
-    match fail {
-        HostFail::Failed => failed,
-        HostFail::NoMemory => Status::NoMemory,
-    }
-}
 
 /// Opens the database file and reads at most `most` bytes of it.
 fn read_text<H: Host>(
@@ -26,15 +19,15 @@ fn read_text<H: Host>(
     name: &str,
     most: usize,
 ) -> Result<Vec<u8>, Status>
-    ensures front { IfOk result (λ text. IfSome (H.files host.old name.now) (FrontOf most text.items)) }
-    ensures outputs { H.outputs host.new ≡ H.outputs host.old }
-    ensures files { H.files host.new ≡ H.files host.old }
-    ensures later { NoneFalls (H.faults host.old) (H.faults host.new) }
-    ensures cause { IfErr result (λ status. HasTextCause status (H.faults host.old) (H.faults host.new) name.now) }
+    ensures front { IfOk result (λ text.
+        IfSome (H.files host.old name.now) (FrontOf most text.items)) }
+    ensures opens { OpensOne name.now (H.inputs host.old).opened (H.inputs host.new).opened result }
+    ensures frame { MovesInputsOnly H.outputs H.files H.faults host.old host.new }
+    ensures cause { IfErr result (HasTextCause name.now (H.faults host.old) (H.faults host.new)) }
 {
     let id = match host.open_in(name) {
         Ok(id) => id,
-        Err(fail) => return Err(status_of(fail, Status::Open { role: Role::Db })),
+        Err(fail) => return Err(refused(fail, Status::Open { role: Role::Db })),
     };
     let mut text = match vec![in alloc; 0u8; most] {
         Ok(text) => text,
@@ -45,7 +38,7 @@ fn read_text<H: Host>(
             text.truncate(count);
             Ok(text)
         }
-        Err(fail) => Err(status_of(fail, Status::Read { role: Role::Db })),
+        Err(fail) => Err(refused(fail, Status::Read { role: Role::Db })),
     }
 }
 
@@ -57,13 +50,13 @@ pub fn load<H: Host>(
     name: &str,
     most: usize,
 ) -> Result<SimpleDb, Status>
-    requires { 1048576 < most }
+    requires { MOST_DATABASE < most }
     ensures database { IfSome (H.files host.old name.now) (DatabaseIs result) }
-    ensures few { IfOk result (λ db. length db ≤ 1024) }
-    ensures outputs { H.outputs host.new ≡ H.outputs host.old }
-    ensures files { H.files host.new ≡ H.files host.old }
-    ensures later { NoneFalls (H.faults host.old) (H.faults host.new) }
-    ensures cause { IfErr result (λ status. HasDatabaseCause status (H.faults host.old) (H.faults host.new) name.now) }
+    ensures few { IfOk result (λ db. length db ≤ MOST_PROTOCOLS) }
+    ensures opens { OpensOne name.now (H.inputs host.old).opened (H.inputs host.new).opened result }
+    ensures frame { MovesInputsOnly H.outputs H.files H.faults host.old host.new }
+    ensures cause { IfErr result (HasDatabaseCause name.now
+        (H.faults host.old) (H.faults host.new)) }
 {
     let text = read_text(alloc, host, name, most)?;
     match read_database(alloc, text.as_slice()) {

@@ -29,7 +29,8 @@ pub fn push_attribute(text: &mut Vec<u8>, name: &str, value: &[u8]) -> Result<()
 
 /// Adds an attribute with a number in decimal.
 pub fn push_number(text: &mut Vec<u8>, name: &str, number: u64) -> Result<(), NoMemory>
-    ensures { OnOk result (text.new.items ≡ text.old.items ++ Pdml.number_attribute name.now number) }
+    ensures { OnOk result (text.new.items ≡
+        text.old.items ++ Pdml.number_attribute name.now number) }
 {
     let mut buffer = Buffer::new();
     push_attribute(text, name, buffer.format(number).as_bytes())
@@ -38,7 +39,8 @@ pub fn push_number(text: &mut Vec<u8>, name: &str, number: u64) -> Result<(), No
 /// Adds the attributes `name`, `pos` and `size`.
 #[tactic(auto, unfolding(crate::specs::Pdml::place_attributes))]
 pub fn push_place(text: &mut Vec<u8>, name: &[u8], pos: u32, size: u32) -> Result<(), NoMemory>
-    ensures { OnOk result (text.new.items ≡ text.old.items ++ Pdml.place_attributes name.now pos size) }
+    ensures { OnOk result (text.new.items ≡
+        text.old.items ++ Pdml.place_attributes name.now pos size) }
 {
     push_attribute(text, "name", name)?;
     push_number(text, "pos", u64::from(pos))?;
@@ -56,7 +58,8 @@ pub fn push_field(
     value: &[u8],
     show: &[u8],
 ) -> Result<(), NoMemory>
-    ensures { OnOk result (text.new.items ≡ text.old.items ++ Pdml.field_line name.now pos size value.now show.now) }
+    ensures { OnOk result (text.new.items ≡
+        text.old.items ++ Pdml.field_line name.now pos size value.now show.now) }
 {
     let hex = encode(alloc, value)?;
     push(text, b"<field")?;

@@ -1,30 +1,29 @@
-ghost use Rattle.std.specs.Prelude.{◌≡◌, ◌≤◌, length, IsSome, IfErr, IfOk, OnOk};
-ghost use Rattle.npd_host.specs.declared.host.CallKind.{CallKind};
-ghost use Rattle.npd_host.specs.Host.{NoneFalls, Took, RoseAt};
+ghost use Rattle.std.specs.Prelude.{◌≤◌, length, IsSome, IfErr};
+ghost use Rattle.npd_host.specs.Host.{MovesOutputsOnly};
+ghost use Rattle.db_model.specs.declared.limits.TheConstants.{MOST_PROTOCOLS};
 ghost use Rattle.npd_top.specs.Causes.{HasWriteCause, HasOutputCause};
+ghost use Rattle.npd_top.specs.Outside.{OpensOne};
 ghost use Rattle.npd_top.specs.Pdml.{whole_text};
 ghost use Rattle.npd_top.specs.Written.{TakesText, WritesText};
 
 use crate::pdml::{closing, opening, packet_text};
 use crate::simple::SimpleProtocol;
-use crate::status::{Role, Status};
+use crate::status::{Role, Status, refused};
 use db_model::Packet;
-use npd_host::{Host, HostFail, OutId, write_all};
+use npd_host::{Host, OutId, write_all};
 use std::alloc::Global;
 
 /// Writes one piece.
 fn write_piece<H: Host>(host: &mut H, id: OutId, bytes: &[u8]) -> Result<(), Status>
     requires { IsSome ((H.outputs host.old).name id.0) }
     ensures takes { TakesText result id.0 (H.outputs host.old) (H.outputs host.new) bytes.now }
-    ensures inputs { H.inputs host.new ≡ H.inputs host.old }
-    ensures files { H.files host.new ≡ H.files host.old }
-    ensures later { NoneFalls (H.faults host.old) (H.faults host.new) }
-    ensures cause { IfErr result (λ status. HasWriteCause status (H.faults host.old CallKind.Write) (H.faults host.new CallKind.Write) ((H.outputs host.old).name id.0)) }
+    ensures frame { MovesOutputsOnly H.inputs H.files H.faults host.old host.new }
+    ensures cause { IfErr result (HasWriteCause ((H.outputs host.old).name id.0)
+        (H.faults host.old) (H.faults host.new)) }
 {
     match write_all(host, id, bytes) {
         Ok(()) => Ok(()),
-        Err(HostFail::Failed) => Err(Status::Write { role: Role::Pdml }),
-        Err(HostFail::NoMemory) => Err(Status::NoMemory),
+        Err(fail) => Err(refused(fail, Status::Write { role: Role::Pdml })),
     }
 }
 
@@ -37,12 +36,12 @@ fn write_pieces<H: Host>(
     packets: &[Packet],
 ) -> Result<(), Status>
     requires given { IsSome ((H.outputs host.old).name id.0) }
-    requires few { length db.now ≤ 1024 }
-    ensures takes { TakesText result id.0 (H.outputs host.old) (H.outputs host.new) (whole_text db.now packets.now) }
-    ensures inputs { H.inputs host.new ≡ H.inputs host.old }
-    ensures files { H.files host.new ≡ H.files host.old }
-    ensures later { NoneFalls (H.faults host.old) (H.faults host.new) }
-    ensures cause { IfErr result (λ status. HasWriteCause status (H.faults host.old CallKind.Write) (H.faults host.new CallKind.Write) ((H.outputs host.old).name id.0)) }
+    requires few { length db.now ≤ MOST_PROTOCOLS }
+    ensures takes { TakesText result id.0 (H.outputs host.old) (H.outputs host.new)
+        (whole_text db.now packets.now) }
+    ensures frame { MovesOutputsOnly H.inputs H.files H.faults host.old host.new }
+    ensures cause { IfErr result (HasWriteCause ((H.outputs host.old).name id.0)
+        (H.faults host.old) (H.faults host.new)) }
 {
     write_piece(host, id, opening())?;
     for packet in packets {
@@ -63,16 +62,18 @@ pub fn write_pdml<H: Host>(
     db: &[SimpleProtocol],
     packets: &[Packet],
 ) -> Result<(), Status>
-    requires few { length db.now ≤ 1024 }
-    ensures writes { WritesText result (H.outputs host.old) (H.outputs host.new) name.now (whole_text db.now packets.now) }
-    ensures files { H.files host.new ≡ H.files host.old }
-    ensures later { NoneFalls (H.faults host.old) (H.faults host.new) }
-    ensures cause { IfErr result (λ status. HasOutputCause status (H.faults host.old) (H.faults host.new) name.now) }
+    requires few { length db.now ≤ MOST_PROTOCOLS }
+    ensures writes { WritesText result (H.outputs host.old) (H.outputs host.new) name.now
+        (whole_text db.now packets.now) }
+    ensures opens { OpensOne name.now
+        (H.outputs host.old).opened (H.outputs host.new).opened result }
+    ensures frame { MovesOutputsOnly H.inputs H.files H.faults host.old host.new }
+    ensures cause { IfErr result (HasOutputCause name.now
+        (H.faults host.old) (H.faults host.new)) }
 {
     let id = match host.open_out(name) {
         Ok(id) => id,
-        Err(HostFail::Failed) => return Err(Status::Open { role: Role::Pdml }),
-        Err(HostFail::NoMemory) => return Err(Status::NoMemory),
+        Err(fail) => return Err(refused(fail, Status::Open { role: Role::Pdml })),
     };
     write_pieces(alloc, host, id, db, packets)
 }

@@ -1,5 +1,6 @@
 ghost use Rattle.std.specs.Prelude.{◌≡◌, ◌++◌, ◌≤◌, OnOk, IfOk, codes, slice_get, length};
 ghost use Rattle.std.specs.List.{flat_map};
+ghost use Rattle.db_model.specs.declared.limits.TheConstants.{MOST_PROTOCOLS};
 ghost use Rattle.npd_top.specs.Decoding;
 ghost use Rattle.npd_top.specs.Pdml;
 
@@ -146,7 +147,8 @@ fn push_proto_lines(
     size: u32,
     nodes: &[u8],
 ) -> Result<(), NoMemory>
-    ensures { OnOk result (text.new.items ≡ text.old.items ++ Pdml.proto_lines name.now pos size nodes.now) }
+    ensures { OnOk result (text.new.items ≡
+        text.old.items ++ Pdml.proto_lines name.now pos size nodes.now) }
 {
     push(text, b"<proto")?;
     push_place(text, name, pos, size)?;
@@ -262,7 +264,7 @@ pub fn packet_text(
     db: &[SimpleProtocol],
     packet: &Packet,
 ) -> Result<Vec<u8>, NoMemory>
-    requires few { length db.now ≤ 1024 }
+    requires few { length db.now ≤ MOST_PROTOCOLS }
     ensures { IfOk result (λ text. text.items ≡ Pdml.packet_text db.now packet.now) }
 {
     let tree = decode(alloc, db, packet.bytes.as_slice())?;

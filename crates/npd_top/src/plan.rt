@@ -1,12 +1,12 @@
 ghost use Rattle.std.specs.Prelude.{◌≡◌, ◌≢◌, ◌↔◌, List, ℕ, [], ◌∷◌, map, string_bytes, IfSome, IfNone, IfOk, MatchOption, IsTrue, slice_get};
 ghost use Rattle.std.specs.Option.{option_copied};
-ghost use Rattle.npd_top.specs.Words.{words_of, Asks, IsFileName, IsOutputName};
+ghost use Rattle.npd_top.specs.Words.{words_of, Asks, AsksNothing, IsFileName, IsOutputName};
 
 use db_model::{NoMemory, Word};
 use std::alloc::Global;
 
 /// What the command words ask for: decode the capture `cap` by the database `db`, and write PDML to `pdml`.
-#[derive(Debug, Drop)]
+#[derive(Drop)]
 pub struct Plan {
     pub db: Word,
     pub cap: Word,
@@ -23,8 +23,10 @@ struct Names<'a> {
 
 /// The words behind the first, where that is `word`.
 fn past<'a>(words: &'a [String], word: &str) -> Option<&'a [String]>
-    ensures found { IfSome result (λ rest. map string_bytes words.now ≡ word.now ∷ map string_bytes rest.now) }
-    ensures missing { IfNone result ((rest : List (List ℕ)) → map string_bytes words.now ≡ word.now ∷ rest → ⊥) }
+    ensures found { IfSome result (λ rest.
+        map string_bytes words.now ≡ word.now ∷ map string_bytes rest.now) }
+    ensures missing { IfNone result ((rest : List (List ℕ))
+        → map string_bytes words.now ≡ word.now ∷ rest → ⊥) }
 {
     let (first, rest) = words.split_first()?;
     if first.as_str() == word {
@@ -36,8 +38,10 @@ fn past<'a>(words: &'a [String], word: &str) -> Option<&'a [String]>
 
 /// The value behind the option that comes first, where that is `name`, and the words behind it.
 fn option_value<'a>(words: &'a [String], name: &str) -> Option<(&'a str, &'a [String])>
-    ensures found { IfSome result (λ read. map string_bytes words.now ≡ name.now ∷ (read.0.now ∷ map string_bytes read.1.now)) }
-    ensures missing { IfNone result ((value : List ℕ) (rest : List (List ℕ)) → map string_bytes words.now ≡ name.now ∷ (value ∷ rest) → ⊥) }
+    ensures found { IfSome result (λ read.
+        map string_bytes words.now ≡ name.now ∷ (read.0.now ∷ map string_bytes read.1.now)) }
+    ensures missing { IfNone result ((value : List ℕ) (rest : List (List ℕ))
+        → map string_bytes words.now ≡ name.now ∷ (value ∷ rest) → ⊥) }
 {
     let (value, rest) = past(words, name)?.split_first()?;
     Some((value.as_str(), rest))
@@ -45,8 +49,10 @@ fn option_value<'a>(words: &'a [String], name: &str) -> Option<(&'a str, &'a [St
 
 /// The three names, where the words are spelled as those of a plan.
 fn spelled_names(words: &[String]) -> Option<Names<'_>>
-    ensures found { IfSome result (λ names. map string_bytes words.now ≡ words_of names.db.now names.cap.now names.pdml.now) }
-    ensures missing { IfNone result ((db cap pdml : List ℕ) → map string_bytes words.now ≡ words_of db cap pdml → ⊥) }
+    ensures found { IfSome result (λ names.
+        map string_bytes words.now ≡ words_of names.db.now names.cap.now names.pdml.now) }
+    ensures missing { IfNone result ((db cap pdml : List ℕ)
+        → map string_bytes words.now ≡ words_of db cap pdml → ⊥) }
 {
     let options = past(words, "decode")?;
     let (db, options) = option_value(options, "--db")?;
@@ -78,7 +84,8 @@ fn is_output_name(name: &str) -> bool
 
 /// The plan that the words ask for, or `None` where they ask for none.
 pub fn read_plan(alloc: Global, words: &[String]) -> Result<Option<Plan>, NoMemory>
-    ensures { IfOk result (λ read. MatchOption read ((plan : Plan) → Asks (map string_bytes words.now) plan → ⊥) (Asks (map string_bytes words.now))) }
+    ensures { IfOk result (λ read.
+        MatchOption read (AsksNothing (map string_bytes words.now)) (Asks (map string_bytes words.now))) }
 {
     let Some(names) = spelled_names(words) else {
         return Ok(None);

@@ -3,25 +3,21 @@ ghost use Rattle.std.specs.List.{prefix_len, list_all};
 ghost use Rattle.std.specs.Char.{is_ascii_digit};
 ghost use Rattle.std.specs.Str.Parse.{digits_value};
 ghost use Rattle.db_model.specs.Name.{continues_name as spec_continues_name};
+ghost use Rattle.db_model.specs.declared.limits.TheConstants.{MOST_PROTOCOLS};
 ghost use Rattle.npd_top.specs.SimpleText;
 ghost use Rattle.npd_top.specs.SimpleText.{IsSimple};
 ghost use Rattle.npd_top.specs.Reading;
 ghost use Rattle.npd_top.specs.Reader.{IsRead, IsPast, IsWholeRead, SpellsOneDatabase};
 ghost use Rattle.npd_top.specs.declared.simple.SimpleProtocol.{SimpleProtocol as AnyProtocol};
 
+use crate::limits::MOST_DATABASE;
 use crate::simple::{SimpleDb, SimpleField, SimpleProtocol};
-use db_model::{Name, NoMemory, continues_name, is_name};
+use db_model::{MOST_PROTOCOLS, Name, NoMemory, continues_name, is_name};
 use sqlite_items::Items;
 use std::alloc::{AllocError, Global};
 
-/// The most bytes that the text of a simple database has.
-const MOST_TEXT: usize = 1_048_576;
-
-/// The most protocols that a simple database has.
-const MOST_PROTOCOLS: usize = 1_024;
-
 /// Why a text was not read.
-#[derive(Clone, Copy, Debug, PartialEq, Eq)]
+#[derive(Clone, Copy)]
 pub enum ReadFail {
     /// It is not spelled as a simple database.
     NotSimple,
@@ -91,7 +87,8 @@ fn size_of(digits: &[u8]) -> Option<u32>
 impl<'a> Reader<'a> {
     /// Goes past a literal, where it stands here.
     fn goes_past(&mut self, literal: &[u8]) -> bool
-        ensures { MatchBool result (Reading.after literal.now self.old.rest.now ≡ Some self.new.rest.now)
+        ensures { MatchBool result
+            (Reading.after literal.now self.old.rest.now ≡ Some self.new.rest.now)
             ((Reading.after literal.now self.old.rest.now ≡ None) × (self.new.rest.now ≡ self.old.rest.now)) }
     {
         match self.rest.strip_prefix(literal) {
@@ -240,7 +237,7 @@ impl<'a> Reader<'a> {
     fn simple_database(&mut self, alloc: Global) -> Result<SimpleDb, ReadFail>
         ensures { IsWholeRead result (Reading.simple_in self.old.rest.now) }
     {
-        if self.rest.len() > MOST_TEXT {
+        if self.rest.len() > MOST_DATABASE {
             return Err(ReadFail::NotSimple);
         }
         let db = self.database(alloc)?;
@@ -298,7 +295,7 @@ fn are_nexts_declared(db: &[SimpleProtocol]) -> bool
 fn is_consistent(db: &[SimpleProtocol]) -> bool
     ensures { result ≡ SimpleText.is_consistent db.now }
 {
-    db.len() <= MOST_PROTOCOLS
+    db.len() <= MOST_PROTOCOLS as usize
         && have_own_names(db)
         && !is_declared(db, b"payload")
         && is_declared(db, b"startproto")
@@ -306,11 +303,11 @@ fn is_consistent(db: &[SimpleProtocol]) -> bool
 }
 
 /// Reads the text of a simple database. It is refused with `NotSimple` where it spells none, and at once where it has
-/// more than `MOST_TEXT` bytes.
+/// more than `MOST_DATABASE` bytes.
 pub fn read_database(alloc: Global, text: &[u8]) -> Result<SimpleDb, ReadFail>
     ensures simple { MatchResult result (IsSimple text.now)
         (λ fail. fail ≡ ReadFail.NotSimple → (db : List AnyProtocol) → IsSimple text.now db → ⊥) }
-    ensures few { IfOk result (λ db. length db ≤ 1024) }
+    ensures few { IfOk result (λ db. length db ≤ MOST_PROTOCOLS) }
 {
     let mut reader = Reader { rest: text };
     reader.simple_database(alloc)
@@ -320,6 +317,3 @@ pub fn read_database(alloc: Global, text: &[u8]) -> Result<SimpleDb, ReadFail>
 pub fn spells_one_database()
     ensures { SpellsOneDatabase }
 {}
-
-#[cfg(test)]
-mod tests;

@@ -1,8 +1,10 @@
 ghost use Rattle.std.specs.Prelude.{◌≡◌, map, string_bytes};
 ghost use Rattle.npd_host.specs.Host.{NoneFalls};
-ghost use Rattle.npd_top.specs.Run.{Says, HasCause, Means, IsComplete};
+ghost use Rattle.npd_top.specs.Outside.{seen};
+ghost use Rattle.npd_top.specs.Run.{Says, Opens, HasCause, Means};
 
 use crate::capture::read_capture;
+use crate::limits::MOST_DATABASE;
 use crate::load::load;
 use crate::output::write_pdml;
 use crate::plan::{Plan, read_plan};
@@ -11,17 +13,16 @@ use db_model::NoMemory;
 use npd_host::Host;
 use std::alloc::Global;
 
-/// How many bytes of a database file are read at most: one more than a database has.
-const MOST_TEXT: usize = 1_048_577;
-
 /// Loads the database, reads the capture, and writes the PDML.
 fn run_plan<H: Host>(alloc: Global, host: &mut H, plan: &Plan) -> Status
-    ensures says { Says result plan.now (H.files host.old) (H.outputs host.old) (H.outputs host.new) }
-    ensures cause { HasCause result plan.now (H.faults host.old) (H.faults host.new) }
+    ensures opens { Opens result plan.now (seen H.Host host.old) (seen H.Host host.new) }
+    ensures says { Says result plan.now (seen H.Host host.old) (seen H.Host host.new) }
+    ensures cause { HasCause result plan.now (seen H.Host host.old) (seen H.Host host.new) }
     ensures files { H.files host.new ≡ H.files host.old }
     ensures later { NoneFalls (H.faults host.old) (H.faults host.new) }
 {
-    let db = match load(alloc, host, plan.db.as_str(), MOST_TEXT) {
+    // One byte more than a database has, so that a longer text is seen.
+    let db = match load(alloc, host, plan.db.as_str(), MOST_DATABASE + 1) {
         Ok(db) => db,
         Err(status) => return status,
     };
@@ -44,12 +45,13 @@ fn run_plan<H: Host>(alloc: Global, host: &mut H, plan: &Plan) -> Status
 /// Serves the command words `decode --db D --cap C --pdml P --workers 0` on a host: reads the database file D
 /// and the capture C, and writes to P the PDML of decoding the packets one by one, in order. It always returns.
 ///
-/// The status says how it ended. `Means` is what each status promises, for every list of words, every told
-/// input and every list of failing calls: which status comes exactly where, which only where the count of
-/// faults of the role's own name rose in this call, and what the output has taken then.
+/// The status says how it ended. `Means` is what each status promises, for every list of words, every host,
+/// every told input and every list of failing calls: which status comes exactly where, which only where the
+/// count of faults of the role's own name rose in this call, which files were opened, in order, each once, and
+/// what the output has taken then.
 pub fn run_serial<H: Host>(alloc: Global, words: &[String], host: &mut H) -> Status
-    ensures means { Means result (map string_bytes words.now) (H.files host.old) (H.outputs host.old) (H.outputs host.new) (H.faults host.old) (H.faults host.new) }
-    ensures complete { IsComplete result (map string_bytes words.now) (H.files host.old) (H.faults host.old) (H.faults host.new) }
+    ensures means { Means result (map string_bytes words.now)
+        (seen H.Host host.old) (seen H.Host host.new) }
     ensures untouched { result ≡ Status.Unbuilt Part.Words → host.new ≡ host.old }
     ensures files { H.files host.new ≡ H.files host.old }
     ensures later { NoneFalls (H.faults host.old) (H.faults host.new) }

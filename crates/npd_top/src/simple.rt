@@ -2,7 +2,7 @@ use db_model::Name;
 use sqlite_items::Items;
 
 /// One field of fixed size.
-#[derive(Debug, Drop)]
+#[derive(Drop)]
 pub struct SimpleField {
     pub name: Name,
     /// In bytes: 1 to 65,535.
@@ -10,7 +10,7 @@ pub struct SimpleField {
 }
 
 /// A protocol of fields of fixed size, with a constant next protocol or none.
-#[derive(Debug, Drop)]
+#[derive(Drop)]
 pub struct SimpleProtocol {
     pub name: Name,
     pub fields: Items<SimpleField>,

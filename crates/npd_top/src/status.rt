@@ -1,11 +1,13 @@
 ghost use Rattle.std.specs.Prelude.{◌≡◌, ◌++◌, ◌∷◌, [], codes, IfOk};
+ghost use Rattle.npd_top.specs.Causes.{refusal};
 ghost use Rattle.npd_top.specs.Status.{exit_of, line_of, role_word, part_word};
 
 use db_model::{Bytes64, NoMemory};
+use npd_host::HostFail;
 use std::alloc::{AllocError, Global};
 
 /// What a file is to a run.
-#[derive(Clone, Copy, Debug, PartialEq, Eq)]
+#[derive(Clone, Copy)]
 pub enum Role {
     Db,
     Cap,
@@ -26,7 +28,7 @@ impl Role {
 }
 
 /// A part of the input whose form isn't built yet.
-#[derive(Clone, Copy, Debug, PartialEq, Eq)]
+#[derive(Clone, Copy)]
 pub enum Part {
     Words,
     Database,
@@ -47,7 +49,7 @@ impl Part {
 }
 
 /// How a run ended.
-#[derive(Clone, Copy, Debug, PartialEq, Eq)]
+#[derive(Clone, Copy)]
 pub enum Status {
     /// The capture was read to its end, and each named output is its whole text.
     Done,
@@ -61,6 +63,16 @@ pub enum Status {
     NoMemory,
     /// This part of the input has a form that isn't built yet. Nothing is written.
     Unbuilt { part: Part },
+}
+
+/// The status where a host refused a call: `failed`, or `NoMemory` where that was the reason.
+pub fn refused(fail: HostFail, failed: Status) -> Status
+    ensures { result ≡ refusal failed fail }
+{
+    match fail {
+        HostFail::Failed => failed,
+        HostFail::NoMemory => Status::NoMemory,
+    }
 }
 
 impl From<AllocError> for Status {
@@ -107,7 +119,8 @@ impl Status {
 
 /// `npd: `, what happened and to which file or part, and LF.
 fn line(alloc: Global, what: &str, which: &str) -> Result<Vec<u8>, AllocError>
-    ensures { IfOk result (λ text. text.items ≡ codes "npd: " ++ (what.now ++ which.now) ++ 10 ∷ []) }
+    ensures { IfOk result (λ text.
+        text.items ≡ codes "npd: " ++ (what.now ++ which.now) ++ 10 ∷ []) }
 {
     let mut text = Vec::from_slice(alloc, b"npd: ")?;
     text.extend_from_slice(what.as_bytes())?;

@@ -6,7 +6,7 @@ use Rattle.byteorder.specs.Endian.{little_number}
 use Rattle.byteorder.specs.Numbers.{little_from-append}
 use Rattle.db_model.specs.declared.packet.Packet.{Packet}
 use Rattle.pcap_in.specs.declared.form.Form.{Form}
-use Rattle.pcap_in.specs.Capture.{Seen, with_front, Step, AtEnd, Fault, One, captured, packet_of, record_at, step_then, goes, records}
+use Rattle.pcap_in.specs.Capture.{Seen, with_front, Step, AtEnd, Fault, One, captured, packet_of, record_at, step_then, first_records, records}
 
 -- the tests of `record_at`, on the length n and the captured length c
 abbrev pub tested : ℕ → ℕ → Step → Step
@@ -24,22 +24,23 @@ tested-long n c one head long = grind (arith, nat_tests)
 pub tested-cut_bytes : (n c : ℕ) (one : Step) → 16 ≤ n → n < 16 + c → tested n c one ≡ Fault
 tested-cut_bytes n c one head cut = grind (arith, nat_tests)
 
-chosen : (b : Bool) (x y z : Step) → cond b x y ≡ z → ((b ≡ true) × (x ≡ z)) ⊎ ((b ≡ false) × (y ≡ z))
-chosen true x y z e = inl (refl, e)
-chosen false x y z e = inr (refl, e)
+-- the two ways of a choice
+cond-cases : (b : Bool) (x y z : Step) → cond b x y ≡ z → ((b ≡ true) × (x ≡ z)) ⊎ ((b ≡ false) × (y ≡ z))
+cond-cases true x y z e = inl (refl, e)
+cond-cases false x y z e = inr (refl, e)
 
 pub tested-one : (n c : ℕ) (one : Step) (packet : Packet) (rest : List ℕ) → tested n c one ≡ One packet rest → (16 + c ≤ n) × (one ≡ One packet rest)
 tested-one n c one packet rest e =
-    elim (chosen (eqb n 0) AtEnd _ _ e) [
+    elim (cond-cases (eqb n 0) AtEnd _ _ e) [
       | inl end ↦ absurd (cc)
       | inr some ↦
-          elim (chosen (ltb n 16) Fault _ _ some.1) [
+          elim (cond-cases (ltb n 16) Fault _ _ some.1) [
             | inl cut ↦ absurd (cc)
             | inr head ↦
-                elim (chosen (ltb 262144 c) Fault _ _ head.1) [
+                elim (cond-cases (ltb 262144 c) Fault _ _ head.1) [
                   | inl long ↦ absurd (cc)
                   | inr most ↦
-                      elim (chosen (ltb n (16 + c)) Fault _ _ most.1) [
+                      elim (cond-cases (ltb n (16 + c)) Fault _ _ most.1) [
                         | inl cut ↦ absurd (cc)
                         | inr fits ↦ (grind (arith, nat_tests), fits.1)
                       ]
@@ -63,22 +64,22 @@ step_then-alike Fault m n h = refl
 step_then-alike (One packet rest) m n h = ap (with_front (packet ∷ [])) (h packet rest refl)
 
 -- more than the length is enough
-goes-enough : (m n : ℕ) (form : Form) (number : ℕ) (r : List ℕ) → length r < m → length r < n → goes m form number r ≡ goes n form number r
-unfolding goes
-goes-enough zero n form number r p q = absurd (omega arith)
-goes-enough (suc m) zero form number r p q = absurd (omega arith)
-goes-enough (suc m) (suc n) form number r p q =
+first_records-enough : (m n : ℕ) (form : Form) (number : ℕ) (r : List ℕ) → length r < m → length r < n → first_records m form number r ≡ first_records n form number r
+unfolding first_records
+first_records-enough zero n form number r p q = absurd (omega arith)
+first_records-enough (suc m) zero form number r p q = absurd (omega arith)
+first_records-enough (suc m) (suc n) form number r p q =
     step_then-alike (record_at form number r) _ _ (λ packet rest e.
     let h = length-rest form number r packet rest e in
-    goes-enough m n form (number + 1) rest (omega arith) (omega arith))
+    first_records-enough m n form (number + 1) rest (omega arith) (omega arith))
 
 -- the records are what stands at the front, and the records behind it
 pub records_step : (form : Form) (number : ℕ) (r : List ℕ) → records form number r ≡ step_then (record_at form number r) (λ packet rest. records form (number + 1) rest)
-unfolding records goes
+unfolding records first_records
 records_step form number r =
     step_then-alike (record_at form number r) _ _ (λ packet rest e.
     let h = length-rest form number r packet rest e in
-    goes-enough (length r) (suc (length rest)) form (number + 1) rest (omega arith) (omega arith))
+    first_records-enough (length r) (suc (length rest)) form (number + 1) rest (omega arith) (omega arith))
 
 -- a number that stands in the head is that of the head
 number-head : (at : ℕ) (head more : List ℕ) → at + 4 ≤ length head → little_number 4 (drop at (head ++ more)) ≡ little_number 4 (drop at head)

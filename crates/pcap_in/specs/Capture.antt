@@ -67,15 +67,15 @@ step_then AtEnd more = record { packets = []; end = Whole }
 step_then Fault more = record { packets = []; end = Broken }
 step_then (One packet rest) more = with_front (packet ∷ []) (more packet rest)
 
--- the records at the front of these bytes, at most this many
-unfoldable pub goes : ℕ → Form → ℕ → List ℕ → Seen
-goes zero form number r = record { packets = []; end = Whole }
-goes (suc n) form number r = step_then (record_at form number r) (λ packet rest. goes n form (number + 1) rest)
+-- the records at the front of these bytes, the first so many of them
+unfoldable pub first_records : ℕ → Form → ℕ → List ℕ → Seen
+first_records zero form number r = record { packets = []; end = Whole }
+first_records (suc n) form number r = step_then (record_at form number r) (λ packet rest. first_records n form (number + 1) rest)
 
--- the records that these bytes are, from this number on, since there are no more of them than bytes: by the law
--- `records_step` they are what stands at the front, and then the records behind it
+-- the records that these bytes are, from this number on: there are no more of them than bytes. The law
+-- `RecordsAreSteps` says it without a number of them
 unfoldable pub records : Form → ℕ → List ℕ → Seen
-records form number r = goes (suc (length r)) form number r
+records form number r = first_records (suc (length r)) form number r
 
 -- the records behind a header
 abbrev pub from_header : Result Form End → List ℕ → Seen

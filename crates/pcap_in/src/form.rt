@@ -16,7 +16,8 @@ pub struct Form {
 /// The form of the records behind this file header; none where it is broken.
 pub fn form_in(head: &[u8]) -> Option<Form>
     requires { length head.now ≡ 24 }
-    ensures { MatchOption result (header head.now ≡ Err Broken) (λ form. header head.now ≡ Ok form) }
+    ensures { MatchOption result (header head.now ≡ Err Broken) (λ form.
+        header head.now ≡ Ok form) }
 {
     let magic = LittleEndian::read_u32(head);
     let major = LittleEndian::read_u16(&head[4..]);

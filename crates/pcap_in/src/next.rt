@@ -1,7 +1,7 @@
 use db_model::Packet;
 
 /// What a reader of a capture gives next.
-#[derive(Debug, Drop)]
+#[derive(Drop)]
 pub enum Next {
     Packet(Packet),
     /// Nothing is left.

@@ -1,6 +1,6 @@
 ghost use Rattle.std.specs.Prelude.{◌≡◌, ◌<◌, ◌*◌, ◌^◌, IsTrue, IsSome, IfSome, IfOk, IsErrOf, Err};
 ghost use Rattle.npd_host.specs.declared.host.CallKind.{CallKind};
-ghost use Rattle.npd_host.specs.Host.{NoneFalls, RoseAt};
+ghost use Rattle.npd_host.specs.Host.{CountRose, MovesInputsOnly};
 ghost use Rattle.pcap_in.specs.Reading.{OnlyRead};
 ghost use Rattle.pcap_in.specs.Reader.{is_usable, left, InReach, Begins, TakesHeader, Comes, Takes, reader_after, usable_after, IsStampedBelow};
 
@@ -36,16 +36,17 @@ impl CapReader {
     /// Reads the file header. Broken: the input has none. ReadFault: the host could not read it.
     pub fn begin<H: Host>(alloc: Global, host: &mut H, id: InId) -> Result<CapReader, CapFail>
         requires { IsSome ((H.inputs host.old).name id.0) }
-        ensures begins { IfSome ((H.inputs host.old).held id.0) (λ bytes. Begins result bytes (H.inputs host.new)) }
+        ensures begins { IfSome ((H.inputs host.old).held id.0) (λ bytes.
+            Begins result bytes (H.inputs host.new)) }
         ensures id { IfOk result (λ r. r.id ≡ id) }
         ensures number { IfOk result (λ r. r.number ≡ 0) }
         ensures usable { IfOk result (λ r. IsTrue (is_usable r.state)) }
         ensures reach { IfOk result (λ r. InReach r (H.inputs host.new)) }
-        ensures inputs { OnlyRead id.0 (H.inputs host.old) (H.inputs host.new) (TakesHeader result) }
-        ensures outputs { H.outputs host.new ≡ H.outputs host.old }
-        ensures files { H.files host.new ≡ H.files host.old }
-        ensures later { NoneFalls (H.faults host.old) (H.faults host.new) }
-        ensures cause { IsErrOf result CapFail.ReadFault → RoseAt (H.faults host.old CallKind.Read) (H.faults host.new CallKind.Read) ((H.inputs host.old).name id.0) }
+        ensures inputs { OnlyRead id.0 (H.inputs host.old) (H.inputs host.new)
+            (TakesHeader result) }
+        ensures frame { MovesInputsOnly H.outputs H.files H.faults host.old host.new }
+        ensures cause { IsErrOf result CapFail.ReadFault
+            → CountRose CallKind.Read ((H.inputs host.old).name id.0) H.faults host.old host.new }
     {
         let mut head = [0u8; HEADER];
         let found = fill(host, id, &mut head)?;
@@ -80,18 +81,21 @@ impl CapReader {
         requires usable { IsTrue (is_usable self.old.state) }
         requires given { IsSome ((H.inputs host.old).name self.old.id.0) }
         requires reach { InReach self.old (H.inputs host.old) }
-        ensures comes { IfSome (left self.old (H.inputs host.old)) (λ s. Comes result s (left self.new (H.inputs host.new))) }
+        ensures comes { IfSome (left self.old (H.inputs host.old)) (λ seen.
+            Comes result seen (left self.new (H.inputs host.new))) }
         ensures after { self.new ≡ reader_after result self.old }
         ensures id { self.new.id ≡ self.old.id }
         ensures usable { is_usable self.new.state ≡ usable_after result }
         ensures reach { InReach self.new (H.inputs host.new) }
-        ensures again { self.old.state ≡ State.Broken → (result ≡ Err CapFail.Broken) × (host.new ≡ host.old) }
+        ensures again { self.old.state ≡ State.Broken
+            → (result ≡ Err CapFail.Broken) × (host.new ≡ host.old) }
         ensures stamp { IfOk result (IsStampedBelow (43 * 10 ^ 17)) }
-        ensures inputs { OnlyRead self.old.id.0 (H.inputs host.old) (H.inputs host.new) (Takes result self.old.form self.old.number) }
-        ensures outputs { H.outputs host.new ≡ H.outputs host.old }
-        ensures files { H.files host.new ≡ H.files host.old }
-        ensures later { NoneFalls (H.faults host.old) (H.faults host.new) }
-        ensures cause { IsErrOf result CapFail.ReadFault → RoseAt (H.faults host.old CallKind.Read) (H.faults host.new CallKind.Read) ((H.inputs host.old).name self.old.id.0) }
+        ensures inputs { OnlyRead self.old.id.0 (H.inputs host.old) (H.inputs host.new)
+            (Takes result self.old.form self.old.number) }
+        ensures frame { MovesInputsOnly H.outputs H.files H.faults host.old host.new }
+        ensures cause { IsErrOf result CapFail.ReadFault
+            → CountRose CallKind.Read ((H.inputs host.old).name self.old.id.0)
+            H.faults host.old host.new }
     {
         if let State::Broken = self.state {
             return Err(CapFail::Broken);

@@ -1,7 +1,7 @@
 ghost use Rattle.std.specs.Prelude.{◌≡◌, ◌≤◌, ◌<◌, ◌*◌, ◌^◌, length, IsSome, IfSome, IsErrOf};
 ghost use Rattle.npd_host.specs.declared.host.CallKind.{CallKind};
 ghost use Rattle.npd_host.specs.declared.host.HostFail.{HostFail};
-ghost use Rattle.npd_host.specs.Host.{NoneFalls, RoseAt};
+ghost use Rattle.npd_host.specs.Host.{CountRose, MovesInputsOnly};
 ghost use Rattle.pcap_in.specs.Capture.{packet_of, record_at};
 ghost use Rattle.pcap_in.specs.Reading.{OnlyRead, TakesCount, TakesRecord, Finds, IsStamped};
 
@@ -15,7 +15,7 @@ use std::alloc::Global;
 const HEAD: usize = 16;
 
 /// What stands where a record begins.
-#[derive(Debug, Drop)]
+#[derive(Drop)]
 pub enum Found {
     End,
     Broken,
@@ -48,11 +48,11 @@ fn exactly<H: Host>(
 ) -> Result<Option<Bytes>, HostFail>
     requires given { IsSome ((H.inputs host.old).name id.0) }
     requires most { count ≤ MOST_BYTES }
-    ensures inputs { OnlyRead id.0 (H.inputs host.old) (H.inputs host.new) (TakesCount result count ((H.inputs host.new).held id.0)) }
-    ensures outputs { H.outputs host.new ≡ H.outputs host.old }
-    ensures files { H.files host.new ≡ H.files host.old }
-    ensures later { NoneFalls (H.faults host.old) (H.faults host.new) }
-    ensures cause { IsErrOf result HostFail.Failed → RoseAt (H.faults host.old CallKind.Read) (H.faults host.new CallKind.Read) ((H.inputs host.old).name id.0) }
+    ensures inputs { OnlyRead id.0 (H.inputs host.old) (H.inputs host.new)
+        (TakesCount result count ((H.inputs host.new).held id.0)) }
+    ensures frame { MovesInputsOnly H.outputs H.files H.faults host.old host.new }
+    ensures cause { IsErrOf result HostFail.Failed
+        → CountRose CallKind.Read ((H.inputs host.old).name id.0) H.faults host.old host.new }
 {
     let mut bytes = match vec![in alloc; 0u8; count] {
         Ok(bytes) => bytes,
@@ -74,13 +74,14 @@ pub fn read_record<H: Host>(
     number: u64,
 ) -> Result<Found, HostFail>
     requires { IsSome ((H.inputs host.old).name id.0) }
-    ensures finds { IfSome ((H.inputs host.old).held id.0) (λ held. Finds result (record_at form number held) ((H.inputs host.new).held id.0)) }
+    ensures finds { IfSome ((H.inputs host.old).held id.0) (λ held.
+        Finds result (record_at form number held) ((H.inputs host.new).held id.0)) }
     ensures stamp { IsStamped result (43 * 10 ^ 17) }
-    ensures inputs { OnlyRead id.0 (H.inputs host.old) (H.inputs host.new) (TakesRecord result form number) }
-    ensures outputs { H.outputs host.new ≡ H.outputs host.old }
-    ensures files { H.files host.new ≡ H.files host.old }
-    ensures later { NoneFalls (H.faults host.old) (H.faults host.new) }
-    ensures cause { IsErrOf result HostFail.Failed → RoseAt (H.faults host.old CallKind.Read) (H.faults host.new CallKind.Read) ((H.inputs host.old).name id.0) }
+    ensures inputs { OnlyRead id.0 (H.inputs host.old) (H.inputs host.new)
+        (TakesRecord result form number) }
+    ensures frame { MovesInputsOnly H.outputs H.files H.faults host.old host.new }
+    ensures cause { IsErrOf result HostFail.Failed
+        → CountRose CallKind.Read ((H.inputs host.old).name id.0) H.faults host.old host.new }
 {
     let mut head = [0u8; HEAD];
     let found = fill(host, id, &mut head)?;

@@ -9,6 +9,3 @@ pub mod laws;
 
 pub use builder::TreeBuilder;
 pub use fail::AddFail;
-
-#[cfg(test)]
-mod tests;

@@ -11,14 +11,14 @@ use std::alloc::Global;
 use std::marker::Model;
 
 /// How often each kind of call has failed on a name.
-#[derive(Debug, Drop)]
+#[derive(Drop)]
 pub struct NameFaults {
     pub name: Word,
     pub counts: Counts,
 }
 
 /// The faults of each name.
-#[derive(Debug, Drop)]
+#[derive(Drop)]
 pub struct Faults {
     names: Vec<NameFaults>,
 }
@@ -46,7 +46,8 @@ impl Faults {
     pub fn add(&mut self, alloc: Global, name: &str) -> Result<(), NoMemory>
         ensures added { OnOk result (HasCounts self.new name.now) }
         ensures kept { (other : List ℕ) → HasCounts self.old other → HasCounts self.new other }
-        ensures same { (kind : CallKind) (other : List ℕ) → faults_of self.new kind other ≡ faults_of self.old kind other }
+        ensures same { (kind : CallKind) (other : List ℕ) →
+            faults_of self.new kind other ≡ faults_of self.old kind other }
     {
         if place_of(&self.names, name).is_some() {
             return Ok(());

@@ -84,7 +84,7 @@ fn open_file<R: Files>(rt: &R, options: &OpenOptions, name: &str) -> Option<R::F
 }
 
 /// Reads into the front of `buf`, and says how many bytes. None: the read failed.
-pub fn read_some<S: Read>(from: &mut S, buf: &mut [u8]) -> Option<usize>
+fn read_some<S: Read>(from: &mut S, buf: &mut [u8]) -> Option<usize>
     ensures { IfSome result (λ n. n ≤ length buf.new) }
 {
     for _ in 0..MOST_CALLS {
@@ -101,7 +101,7 @@ pub fn read_some<S: Read>(from: &mut S, buf: &mut [u8]) -> Option<usize>
 }
 
 /// Writes some of `bytes`, and says how many. None: the write failed, or took nothing.
-pub fn write_some<S: Write>(to: &mut S, bytes: &[u8]) -> Option<usize>
+fn write_some<S: Write>(to: &mut S, bytes: &[u8]) -> Option<usize>
     ensures { IfSome result (λ n. (0 < n) × (n ≤ length bytes.now)) }
 {
     for _ in 0..MOST_CALLS {

@@ -1,4 +1,5 @@
 ghost use Rattle.std.specs.Prelude.{◌≡◌, ◌↔◌, IsTrue, IfOk, OnErr, OnOk, ◌++◌, ◌∷◌, []};
+ghost use Rattle.npd_host.specs.declared.memory.calls.FailedCall.{FailedCall};
 ghost use Rattle.npd_host.specs.Counts.{count_at, raised};
 ghost use Rattle.npd_host.specs.Host.{NoneFalls, Rose};
 ghost use Rattle.npd_host.specs.MemHost.{IsPlanned, failed_with, faults_in};
@@ -16,7 +17,7 @@ pub struct PlannedCall {
 }
 
 /// A call that failed, and the name that it was made on.
-#[derive(Debug, Drop)]
+#[derive(Drop)]
 pub struct FailedCall {
     pub kind: CallKind,
     pub name: Word,
@@ -34,9 +35,12 @@ pub fn is_due(planned: &[PlannedCall], calls: &mut Counts, kind: CallKind) -> bo
 
 /// Notes that a call failed, and answers so. Takes the memory for that first.
 pub fn note(alloc: Global, failed: &mut Vec<FailedCall>, kind: CallKind, name: &str) -> HostFail
-    ensures noted { failed.new.items ≡ failed_with result (record { kind = kind; name = name.now }) failed.old.items }
+    ensures noted { let call : FailedCall = record { kind = kind; name = name.now } in
+        failed.new.items ≡ failed_with result call failed.old.items }
     ensures later { NoneFalls (faults_in failed.old.items) (faults_in failed.new.items) }
-    ensures cause { result ≡ HostFail.Failed → Rose (faults_in failed.old.items kind name.now) (faults_in failed.new.items kind name.now) }
+    ensures cause { result ≡ HostFail.Failed
+        → Rose (faults_in failed.old.items kind name.now)
+        (faults_in failed.new.items kind name.now) }
 {
     match push(alloc, failed, kind, name) {
         Ok(()) => HostFail::Failed,
@@ -50,7 +54,8 @@ fn push(
     kind: CallKind,
     name: &str,
 ) -> Result<(), NoMemory>
-    ensures pushed { OnOk result (failed.new.items ≡ failed.old.items ++ record { kind = kind; name = name.now } ∷ []) }
+    ensures pushed { let call : FailedCall = record { kind = kind; name = name.now } in
+        OnOk result (failed.new.items ≡ failed.old.items ++ call ∷ []) }
     ensures left { OnErr result (failed.new.items ≡ failed.old.items) }
 {
     let name = Word::copy_of(alloc, name)?;

@@ -22,7 +22,8 @@ pub fn put(
     name: &str,
     bytes: &[u8],
 ) -> Result<(), NoMemory>
-    ensures put { OnOk result (Puts (bytes_of files.old.items) (bytes_of files.new.items) name.now bytes.now) }
+    ensures put { OnOk result
+        (Puts (bytes_of files.old.items) (bytes_of files.new.items) name.now bytes.now) }
     ensures left { OnErr result (files.new.items ≡ files.old.items) }
 {
     let file = NamedBytes::copy_of(alloc, name, bytes)?;

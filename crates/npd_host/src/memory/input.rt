@@ -5,7 +5,7 @@ use std::alloc::Global;
 use std::marker::Model;
 
 /// An opened input, seen as its name and the bytes that it still holds.
-#[derive(Debug, Drop)]
+#[derive(Drop)]
 pub struct Input {
     name: Word,
     bytes: Vec<u8>,

@@ -15,7 +15,9 @@ pub fn push(
     name: &str,
     bytes: &[u8],
 ) -> Result<InId, NoMemory>
-    ensures given { IfOk result (λ id. OpensInput (inputs_at inputs.old.items) (inputs_at inputs.new.items) id.0 name.now (Some bytes.now)) }
+    ensures given { IfOk result (λ id.
+        OpensInput (inputs_at inputs.old.items) (inputs_at inputs.new.items) id.0
+        name.now (Some bytes.now)) }
     ensures place { IfOk result (λ id. id.0 ≡ length inputs.old.items) }
     ensures left { OnErr result (inputs.new.items ≡ inputs.old.items) }
 {
@@ -40,7 +42,8 @@ pub fn give(inputs: &mut [Input], id: InId, most: u32, buf: &mut [u8]) -> usize
     requires room { 0 < length buf.old }
     requires some { 0 < most }
     ensures bound { result ≤ length buf.new }
-    ensures count { IsSomeAnd ((inputs_at inputs.old).held id.0) (λ bytes. result ≡ min (min most (length buf.new)) (length bytes)) }
+    ensures count { IsSomeAnd ((inputs_at inputs.old).held id.0) (λ bytes.
+        result ≡ min (min most (length buf.new)) (length bytes)) }
     ensures gave { Gave id.0 (inputs_at inputs.old) (inputs_at inputs.new) (take result buf.new) }
     ensures end { result ≡ 0 → IsAtEnd ((inputs_at inputs.new).held id.0) }
 {

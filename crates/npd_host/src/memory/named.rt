@@ -5,7 +5,7 @@ use std::alloc::Global;
 use std::marker::Model;
 
 /// Bytes under a name: a file, or an output with what it has taken.
-#[derive(Debug, Drop)]
+#[derive(Drop)]
 pub struct NamedBytes {
     name: Word,
     bytes: Vec<u8>,
@@ -44,7 +44,8 @@ impl NamedBytes {
 
     /// Adds bytes at the end.
     pub fn append(&mut self, bytes: &[u8]) -> Result<(), NoMemory>
-        ensures added { OnOk result (self.new ≡ record self.old { bytes = self.old.bytes ++ bytes.now }) }
+        ensures added { OnOk result
+            (self.new ≡ record self.old { bytes = self.old.bytes ++ bytes.now }) }
         ensures left { OnErr result (self.new ≡ self.old) }
     {
         self.bytes.extend_from_slice(bytes)?;

@@ -9,7 +9,8 @@ use std::alloc::Global;
 
 /// Begins an empty output. Its id is its place in the list.
 pub fn push(alloc: Global, outputs: &mut Vec<NamedBytes>, name: &str) -> Result<OutId, NoMemory>
-    ensures given { IfOk result (λ id. OpensOutput (outputs_at outputs.old.items) (outputs_at outputs.new.items) id.0 name.now) }
+    ensures given { IfOk result (λ id.
+        OpensOutput (outputs_at outputs.old.items) (outputs_at outputs.new.items) id.0 name.now) }
     ensures place { IfOk result (λ id. id.0 ≡ length outputs.old.items) }
     ensures left { OnErr result (outputs.new.items ≡ outputs.old.items) }
 {
@@ -31,7 +32,8 @@ pub fn name(outputs: &[NamedBytes], id: OutId) -> &str
 /// Adds bytes at the end of an output.
 pub fn append(outputs: &mut [NamedBytes], id: OutId, bytes: &[u8]) -> Result<(), NoMemory>
     requires { IsSome ((outputs_at outputs.old).name id.0) }
-    ensures took { OnOk result (Took id.0 (outputs_at outputs.old) (outputs_at outputs.new) bytes.now) }
+    ensures took { OnOk result
+        (Took id.0 (outputs_at outputs.old) (outputs_at outputs.new) bytes.now) }
     ensures left { OnErr result (outputs.new ≡ outputs.old) }
 {
     let output = &mut outputs[id.0 as usize];
@@ -40,7 +42,8 @@ pub fn append(outputs: &mut [NamedBytes], id: OutId, bytes: &[u8]) -> Result<(),
 
 /// What the output of a name that was opened last has taken.
 pub fn last<'a>(outputs: &'a [NamedBytes], name: &str) -> Option<&'a [u8]>
-    ensures { MatchOption result (NoneNamed (outputs_at outputs.now) name.now) (λ bytes. LastNamed (outputs_at outputs.now) name.now bytes.now) }
+    ensures { MatchOption result (NoneNamed (outputs_at outputs.now) name.now) (λ bytes.
+        LastNamed (outputs_at outputs.now) name.now bytes.now) }
 {
     for place in (0..outputs.len()).rev() {
         let output = &outputs[place];

@@ -1,5 +1,5 @@
-use Rattle.std.proofs.Common.{◌≡◌, ◌≤◌, ◌+◌, length, arith, sym, ap, ◌∙◌, Some, None, subst}
-use Rattle.db_text.specs.Outcome.{built, text_built, Built}
+use Rattle.std.proofs.Common.{arith, sym, ap, ◌∙◌, subst}
+use Rattle.db_text.specs.Outcome.{built, Built}
 use Rattle.db_text.proofs.Passes.{built_on, not_built, built_end, none_of}
 use Rattle.db_text.proofs.build.build.Goals as goal
 

@@ -1,4 +1,4 @@
-use Rattle.std.proofs.Common.{arith, sym, ◌∙◌}
+use Rattle.std.proofs.Common.{arith}
 use Rattle.db_text.proofs.Passes.{fault_by, deep_by}
 use Rattle.db_text.proofs.read.read_elements.Goals as goal
 

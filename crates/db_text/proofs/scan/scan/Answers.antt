@@ -1,4 +1,4 @@
-use Rattle.std.proofs.Common.{◌≡◌, ◌≤◌, ◌+◌, length, arith, sym, ap, ◌∙◌}
+use Rattle.std.proofs.Common.{arith, ap, ◌∙◌}
 use Rattle.db_text.specs.Outcome.{outcome, text_outcome}
 use Rattle.db_text.proofs.Passes.{taken, faulted, at_its_end}
 use Rattle.db_text.proofs.scan.scan.Goals as goal

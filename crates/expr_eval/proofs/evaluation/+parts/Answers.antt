@@ -1,23 +1,23 @@
-use Rattle.std.proofs.Common.{◌≡◌, ◌∙◌, sym, ap, refl, rules, ℕ, List, map, Bool, true, false, not, length, Ok, Err, Result, None, Some, slice_get, drop, [], ◌+◌, subst, arith}
-use Rattle.db_model.specs.declared.tree.Reason.{Reason}
+use Rattle.std.proofs.Common.{◌≡◌, ◌∙◌, sym, ap, refl, rules, ℕ, List, map, Bool, true, false, not, length, Ok, Err, Option, None, Some, slice_get, drop, [], ◌+◌, subst, arith}
 use Rattle.db_model.specs.declared.value.Value.{Value}
 use Rattle.db_model.specs.declared.value.Value.TheVariants.{Num, Buf, Proto}
 use Rattle.db_model.specs.Expression as def
+use Rattle.db_model.specs.declared.database.Database.{Database}
 use Rattle.db_model.specs.declared.database.KeyDecl.{KeyDecl}
+use Rattle.db_model.specs.declared.database.TableDecl.{TableDecl}
 use Rattle.db_model.specs.Over.{point}
 use Rattle.db_model.specs.Special.{special}
 use Rattle.expr_eval.specs.declared.end.EvalEnd.TheVariants.{NoMemory as Refused}
 use Rattle.db_model.specs.Expression.{Eval, key_sizes, num, buf, truth, is_so, last_of, val, give}
-use Rattle.db_model.specs.Names.{Text, protocol_at, table_at, column_at}
+use Rattle.db_model.specs.Names.{protocol_at, table_at, column_at}
 use Rattle.db_model.specs.Numbers.{occurs}
 use Rattle.db_model.specs.Numbering.{names_of_protocol}
-use Rattle.expr_eval.specs.declared.operand.Operand.{Operand}
 use Rattle.expr_eval.specs.declared.operand.Operand.TheVariants.{Own}
 use Rattle.expr_eval.specs.Operand.{shown}
-use Rattle.expr_eval.specs.Evaluates.{Evaluates, Gave}
+use Rattle.expr_eval.specs.Evaluates.{Gave}
 use Rattle.expr_eval.specs.Reads.{field_value, variable_value, column_value}
 use Rattle.expr_eval.proofs.Forms.{not_is, and_is, or_is, binary_is, slice_is, to_number_is, length_is, to_bytes_is, has_text_is, look_up_is, number_is, text_is, protocol_is, field_is, variable_is, column_is, is_present_is}
-use Rattle.expr_eval.proofs.Steps.{same, same_as, recast, gives, refused, then_ok, then_err, then_so, then_not, finish_1, finish_2, finish_3, own_is, Keys_so_far, no_keys_yet, key_unevaluated, key_unmade, key_made, keys_end_sizes, keys_end_parts, keys_have_room, drop_some, drop_past, drop_all, drop_at, keys_at}
+use Rattle.expr_eval.proofs.Steps.{same, same_as, recast, gives, refused, then_ok, then_err, then_so, then_not, finish_1, finish_2, finish_3, own_is, Keys_so_far, no_keys_yet, key_unevaluated, key_unmade, key_made, keys_end, keys_fitted, key_missing, keys_then, look_is_fit, drop_some, drop_past, drop_beyond, drop_leaves, drop_all, drop_at, keys_at}
 use Rattle.expr_eval.proofs.evaluation.+parts.Goals as goal
 
 pub evaluate-returns-in_err-x-in-Not-clause-value : goal.evaluate-returns-in_err-x-in-Not-clause-value
@@ -206,56 +206,91 @@ pub evaluate-returns-in-Protocol-clause-value : goal.evaluate-returns-in-Protoco
 evaluate-returns-in-Protocol-clause-value g t c =
     let db = c.args.db.now in
     let names = names_of_protocol db c.args.protocol in
-    let p = rw c.database-database.ensures.database at c.protocol.ensures in
+    let p = c.protocol.ensures in
     same db (protocol_is db names c.args.e.now c.in-Protocol.name c.args.env.now c.in-Protocol.is) (gives db (Ok (Proto (protocol_at db c.in-Protocol.name))) (ap (λ (v : Value). Ok v) (sym p)))
 
 pub evaluate-returns-in-Field-clause-value : goal.evaluate-returns-in-Field-clause-value
 evaluate-returns-in-Field-clause-value g t c =
     let db = c.args.db.now in
     let names = names_of_protocol db c.args.protocol in
-    let h : Gave (shown c.args.env.now.packet.bytes) (field_value (last_of (names_of_protocol c.database-database.result.now c.args.protocol) c.as_slice.result.now c.args.env.now.present None)) c.field.result = c.field.ensures in
-    same db (field_is db names c.args.e.now c.in-Field.name c.args.env.now c.in-Field.is) (gives db _ (rw (c.database-database.ensures.database, c.as_slice.ensures.bytes) at h))
+    let h : Gave (shown c.args.env.now.packet.bytes) (field_value (last_of (names_of_protocol c.args.db.now c.args.protocol) c.as_slice.result.now c.args.env.now.present None)) c.field.result = c.field.ensures in
+    same db (field_is db names c.args.e.now c.in-Field.name c.args.env.now c.in-Field.is) (gives db _ (rw (c.as_slice.ensures.bytes) at h))
 
 pub evaluate-returns-in-Variable-clause-value : goal.evaluate-returns-in-Variable-clause-value
 evaluate-returns-in-Variable-clause-value g t c =
     let db = c.args.db.now in
     let names = names_of_protocol db c.args.protocol in
-    let h : Gave (shown c.args.env.now.packet.bytes) (Ok (variable_value c.database-database.result.now (special c.as_slice-in-Variable.result.now) c.as_slice-in-Variable.result.now c.args.env.now)) c.variable.result = c.variable.ensures in
-    same db (variable_is db names c.args.e.now c.in-Variable.name c.args.env.now c.in-Variable.is) (gives db _ (rw (c.database-database.ensures.database, c.as_slice-in-Variable.ensures.bytes) at h))
+    let h : Gave (shown c.args.env.now.packet.bytes) (Ok (variable_value c.args.db.now (special c.as_slice-in-Variable.result.now) c.as_slice-in-Variable.result.now c.args.env.now)) c.variable.result = c.variable.ensures in
+    same db (variable_is db names c.args.e.now c.in-Variable.name c.args.env.now c.in-Variable.is) (gives db _ (rw (c.as_slice-in-Variable.ensures.bytes) at h))
 
 pub evaluate-returns-in-Column-clause-value : goal.evaluate-returns-in-Column-clause-value
 evaluate-returns-in-Column-clause-value g t c =
     let db = c.args.db.now in
     let names = names_of_protocol db c.args.protocol in
-    let h : Gave (shown c.args.env.now.packet.bytes) (column_value (slice_get c.args.env.now.hits (table_at c.database-database.result.now c.as_slice-in-Column.result.now)) (column_at (slice_get c.database-database.result.now.tables (table_at c.database-database.result.now c.as_slice-in-Column.result.now)) c.as_slice-in-Column-2.result.now)) c.column.result = c.column.ensures in
-    same db (column_is db names c.args.e.now c.in-Column.table c.in-Column.column c.args.env.now c.in-Column.is) (gives db _ (rw (c.database-database.ensures.database, c.as_slice-in-Column.ensures.bytes, c.as_slice-in-Column-2.ensures.bytes) at h))
+    let h : Gave (shown c.args.env.now.packet.bytes) (column_value (slice_get c.args.env.now.hits (table_at c.args.db.now c.as_slice-in-Column.result.now)) (column_at (slice_get c.args.db.now.tables (table_at c.args.db.now c.as_slice-in-Column.result.now)) c.as_slice-in-Column-2.result.now)) c.column.result = c.column.ensures in
+    same db (column_is db names c.args.e.now c.in-Column.table c.in-Column.column c.args.env.now c.in-Column.is) (gives db _ (rw (c.as_slice-in-Column.ensures.bytes, c.as_slice-in-Column-2.ensures.bytes) at h))
 
 pub evaluate-returns-in-IsPresent-clause-value : goal.evaluate-returns-in-IsPresent-clause-value
 evaluate-returns-in-IsPresent-clause-value g t c =
     let db = c.args.db.now in
     let names = names_of_protocol db c.args.protocol in
-    let h : c.is_present.result ≡ def.is_present (names_of_protocol c.database-database.result.now c.args.protocol) c.as_slice-in-IsPresent.result.now c.as_slice-present.result.now = c.is_present.ensures in
-    let k = rw (c.database-database.ensures.database, c.as_slice-in-IsPresent.ensures.bytes, c.as_slice-present.ensures) at h in
+    let h : c.is_present.result ≡ def.is_present (names_of_protocol c.args.db.now c.args.protocol) c.as_slice-in-IsPresent.result.now c.as_slice-present.result.now = c.is_present.ensures in
+    let k = rw (c.as_slice-in-IsPresent.ensures.bytes, c.as_slice-present.ensures) at h in
     same db (is_present_is db names c.args.e.now c.in-IsPresent.name c.args.env.now c.in-IsPresent.is) (gives db _ (own_is _ _ _ (c.of_truth.ensures ∙ ap (λ (b : Bool). Own (truth b)) k)))
 
-pub evaluate-returns-in_err-keys-in-LookUp-clause-value : goal.evaluate-returns-in_err-keys-in-LookUp-clause-value
-evaluate-returns-in_err-keys-in-LookUp-clause-value g t c =
+pub evaluate-returns-in-LookUp-clause-value : goal.evaluate-returns-in-LookUp-clause-value
+evaluate-returns-in-LookUp-clause-value g t c =
     let db = c.args.db.now in
     let names = names_of_protocol db c.args.protocol in
-    let place : c.table_at-place.result ≡ table_at db c.in-LookUp.table = rw (c.database-database.ensures.database, c.as_slice-in-LookUp.ensures.bytes) at c.table_at-place.ensures.place in
-    let sizes : map (λ (k : KeyDecl). k.size) c.key_sizes-sizes.result.now ≡ key_sizes (slice_get db.tables (table_at db c.in-LookUp.table)) = rw (c.database-database.ensures.database, place) at c.key_sizes-sizes.ensures in
-    let is = look_up_is db names c.args.e.now c.in-LookUp.table c.in-LookUp.renew c.in-LookUp.parts c.as_slice-in-LookUp-2.result.now (map (λ (k : KeyDecl). k.size) c.key_sizes-sizes.result.now) c.table_at-place.result c.in-LookUp.is c.as_slice-in-LookUp-2.ensures sizes place in
-    let r : c.from_residual-in_err-keys-in-LookUp.result ≡ Err c.in_err-keys-in-LookUp.field-0.0 = search rules in
-    recast db r (same_as db is (then_err db _ c.in_err-keys-in-LookUp.field-0.0 c.in_err-keys-in-LookUp.ensures.value))
+    same_as db (look_up_is db names c.args.e.now c.in-LookUp.table c.in-LookUp.renew c.in-LookUp.keys c.as_slice-in-LookUp.result.now c.in-LookUp.is c.as_slice-in-LookUp.ensures) c.look_up.ensures.value
 
-pub evaluate-returns-in_ok-keys-in-LookUp-clause-value : goal.evaluate-returns-in_ok-keys-in-LookUp-clause-value
-evaluate-returns-in_ok-keys-in-LookUp-clause-value g t c =
+pub look_up-returns-in_err-keys-in-Some-clause-value : goal.look_up-returns-in_err-keys-in-Some-clause-value
+look_up-returns-in_err-keys-in-Some-clause-value g t c =
+    let db = c.args.db.now in
+    let table = table_at db c.args.table.now in
+    let d = c.in-Some.declared.now in
+    let parts = map (val db (names_of_protocol db c.args.protocol)) c.args.parts.now in
+    let place : c.table_at-place.result ≡ table = c.table_at-place.ensures.place ∙ ap (table_at db) c.as_slice.ensures.bytes in
+    let there : slice_get db.tables table ≡ Some d = ap (λ (x : Database). slice_get x.tables table) (sym c.database.ensures.database) ∙ ap (slice_get c.database.result.now.tables) (sym place) ∙ sym c.in-Some.ensures.value in
+    let is = ap (λ (o : Option TableDecl). def.look_up o table c.args.renew parts) there ∙ ap (λ (l : List KeyDecl). keys_then l parts table c.args.renew) (sym c.as_slice-sizes.ensures) in
+    let r : c.from_residual.result ≡ Err c.in_err-keys-in-Some.field-0.0 = search rules in
+    recast db r (same_as db is (then_err db _ c.in_err-keys-in-Some.field-0.0 c.in_err-keys-in-Some.ensures.value))
+
+pub look_up-look-requires-clause-fits : goal.look_up-look-requires-clause-fits
+look_up-look-requires-clause-fits g t c =
+    let db = c.args.db.now in
+    let table = table_at db c.args.table.now in
+    let d = c.in-Some.declared.now in
+    let parts = map (val db (names_of_protocol db c.args.protocol)) c.args.parts.now in
+    let place : c.table_at-place.result ≡ table = c.table_at-place.ensures.place ∙ ap (table_at db) c.as_slice.ensures.bytes in
+    let there : slice_get db.tables table ≡ Some d = ap (λ (x : Database). slice_get x.tables table) (sym c.database.ensures.database) ∙ ap (slice_get c.database.result.now.tables) (sym place) ∙ sym c.in-Some.ensures.value in
+    look_is_fit db c.table_at-place.result table d (map (λ (k : KeyDecl). k.size) c.as_slice-sizes.result.now) c.in_ok-keys-in-Some.keys c.args.renew there place (ap (map (λ (k : KeyDecl). k.size)) c.as_slice-sizes.ensures) c.in_ok-keys-in-Some.ensures.fits
+
+pub look_up-returns-in_ok-keys-in-Some-clause-value : goal.look_up-returns-in_ok-keys-in-Some-clause-value
+look_up-returns-in_ok-keys-in-Some-clause-value g t c =
+    let db = c.args.db.now in
+    let table = table_at db c.args.table.now in
+    let d = c.in-Some.declared.now in
+    let parts = map (val db (names_of_protocol db c.args.protocol)) c.args.parts.now in
+    let place : c.table_at-place.result ≡ table = c.table_at-place.ensures.place ∙ ap (table_at db) c.as_slice.ensures.bytes in
+    let there : slice_get db.tables table ≡ Some d = ap (λ (x : Database). slice_get x.tables table) (sym c.database.ensures.database) ∙ ap (slice_get c.database.result.now.tables) (sym place) ∙ sym c.in-Some.ensures.value in
+    let is = ap (λ (o : Option TableDecl). def.look_up o table c.args.renew parts) there ∙ ap (λ (l : List KeyDecl). keys_then l parts table c.args.renew) (sym c.as_slice-sizes.ensures) in
+    let numbered = ap (λ (n : ℕ). keys_then c.as_slice-sizes.result.now parts n c.args.renew) (sym place) in
+    same_as db (is ∙ numbered) (then_ok db _ c.in_ok-keys-in-Some.keys c.in_ok-keys-in-Some.ensures.value c.look.ensures.value)
+
+pub keys-returns-then-parts-sizes-clause-value : goal.keys-returns-then-parts-sizes-clause-value
+keys-returns-then-parts-sizes-clause-value g t c =
     let db = c.args.db.now in
     let names = names_of_protocol db c.args.protocol in
-    let place : c.table_at-place.result ≡ table_at db c.in-LookUp.table = rw (c.database-database.ensures.database, c.as_slice-in-LookUp.ensures.bytes) at c.table_at-place.ensures.place in
-    let sizes : map (λ (k : KeyDecl). k.size) c.key_sizes-sizes.result.now ≡ key_sizes (slice_get db.tables (table_at db c.in-LookUp.table)) = rw (c.database-database.ensures.database, place) at c.key_sizes-sizes.ensures in
-    let is = look_up_is db names c.args.e.now c.in-LookUp.table c.in-LookUp.renew c.in-LookUp.parts c.as_slice-in-LookUp-2.result.now (map (λ (k : KeyDecl). k.size) c.key_sizes-sizes.result.now) c.table_at-place.result c.in-LookUp.is c.as_slice-in-LookUp-2.ensures sizes place in
-    same_as db is (then_ok db _ c.in_ok-keys-in-LookUp.keys c.in_ok-keys-in-LookUp.ensures.value c.look.ensures.value)
+    let sizes = map (λ (k : KeyDecl). k.size) c.args.sizes.now in
+    let parts = map (val db names) c.args.parts.now in
+    let m = point c.args.env.now (g.A.Answers.content c.args.answers.now) (g.A.Answers.told c.args.answers.now) in
+    let n = point c.loop-i.env (g.A.Answers.content c.loop-i.answers) (g.A.Answers.told c.loop-i.answers) in
+    let i = c.loop-i.i in
+    let end : i ≡ length c.args.parts.now = omega arith in
+    let all : drop i parts ≡ [] = ap (λ (j : ℕ). drop j parts) end ∙ drop_all (val db names) c.args.parts.now in
+    let s = subst (λ (r : List (Eval Value)). Keys_so_far db sizes parts m c.loop-i.keys (drop i sizes) r n) all c.loop-i.invariant.so_far in
+    key_missing db sizes parts m c.loop-i.keys (drop i sizes) n (drop_leaves (λ (k : KeyDecl). k.size) c.args.sizes.now i (omega arith)) s
 
 pub keys-loop-i-init : goal.keys-loop-i-init
 keys-loop-i-init g t c =
@@ -346,13 +381,12 @@ keys-returns-in-None g t c =
     let n = point c.loop-i.env (g.A.Answers.content c.loop-i.answers) (g.A.Answers.told c.loop-i.answers) in
     let i = c.loop-i.i in
     let past : slice_get c.args.sizes.now i ≡ None = sym c.in-None.ensures in
-    let s = c.loop-i.invariant.so_far in
-    let t = subst (λ (l : List ℕ). Keys_so_far db sizes parts m c.loop-i.keys l (drop i parts) n) (drop_past (λ (k : KeyDecl). k.size) c.args.sizes.now i past) s in
+    let s = subst (λ (l : List ℕ). Keys_so_far db sizes parts m c.loop-i.keys l (drop i parts) n) (drop_past (λ (k : KeyDecl). k.size) c.args.sizes.now i past) c.loop-i.invariant.so_far in
     record {
       database = c.loop-i.invariant.database;
       packet = c.loop-i.invariant.packet;
-      room = keys_have_room db sizes parts m c.loop-i.keys (drop i sizes) (drop i parts) n s;
-      value = keys_end_sizes db sizes parts m c.loop-i.keys (drop i parts) n t;
+      fits = keys_fitted db sizes parts m c.loop-i.keys (drop i parts) n s;
+      value = keys_end db sizes parts m c.loop-i.keys (drop i parts) n s;
     }
 
 pub keys-returns : goal.keys-returns
@@ -364,13 +398,11 @@ keys-returns g t c =
     let m = point c.args.env.now (g.A.Answers.content c.args.answers.now) (g.A.Answers.told c.args.answers.now) in
     let n = point c.loop-i.env (g.A.Answers.content c.loop-i.answers) (g.A.Answers.told c.loop-i.answers) in
     let i = c.loop-i.i in
-    let end : i ≡ length c.args.parts.now = omega arith in
-    let s = c.loop-i.invariant.so_far in
-    let all : drop i parts ≡ [] = ap (λ (j : ℕ). drop j parts) end ∙ drop_all (val db names) c.args.parts.now in
-    let t = subst (λ (r : List (Eval Value)). Keys_so_far db sizes parts m c.loop-i.keys (drop i sizes) r n) all s in
+    let none : drop i sizes ≡ [] = drop_beyond (λ (k : KeyDecl). k.size) c.args.sizes.now i (omega arith) in
+    let s = subst (λ (l : List ℕ). Keys_so_far db sizes parts m c.loop-i.keys l (drop i parts) n) none c.loop-i.invariant.so_far in
     record {
       database = c.loop-i.invariant.database;
       packet = c.loop-i.invariant.packet;
-      room = keys_have_room db sizes parts m c.loop-i.keys (drop i sizes) (drop i parts) n s;
-      value = keys_end_parts db sizes parts m c.loop-i.keys (drop i sizes) n t;
+      fits = keys_fitted db sizes parts m c.loop-i.keys (drop i parts) n s;
+      value = keys_end db sizes parts m c.loop-i.keys (drop i parts) n s;
     }

@@ -1,6 +1,4 @@
-use Rattle.std.proofs.Common.{◌≡◌, Err, rules}
-use Rattle.expr_eval.proofs.Steps.{recast, unvalued, handed}
-use Rattle.expr_eval.specs.Operand.{shown}
+use Rattle.expr_eval.proofs.Steps.{handed}
 use Rattle.expr_eval.proofs.evaluation.eval.Goals as goal
 
 pub returns-clause-value : goal.returns-clause-value

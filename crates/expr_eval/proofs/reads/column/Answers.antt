@@ -1,4 +1,4 @@
-use Rattle.std.proofs.Common.{◌≡◌, Some, Option, Ok, sym, subst, slice_get, ℕ, List}
+use Rattle.std.proofs.Common.{◌≡◌, Some, Option, Ok, subst, slice_get, ℕ, List}
 use Rattle.db_model.specs.declared.value.Value.{Value}
 use Rattle.db_model.specs.Expression.{value_or_zero}
 use Rattle.db_model.specs.Names.{table_at, column_at}
@@ -12,7 +12,7 @@ returns-in-Some-Some c =
     let z = c.args.env.now in
     let db = c.args.db.now in
     let table = table_at db c.args.table.now in
-    let at : c.column_place-at.result ≡ column_at (slice_get db.tables table) c.args.column.now = rw c.table_at-place.ensures.place at c.column_place-at.ensures in
+    let at : c.column_at-at.result ≡ column_at (slice_get db.tables table) c.args.column.now = rw c.table_at-place.ensures.place at c.column_at-at.ensures in
     let hit : Some c.in-Some-Some.field-0.now ≡ slice_get z.hits table = rw c.table_at-place.ensures.place at c.in-Some-Some.ensures.value in
     let row : Some (Some c.in-Some-Some.row) ≡ slice_get z.hits table = rw c.in-Some-Some.field-0-is at hit in
     subst (λ (o : Option (Option (List Value))). Gave (shown z.packet.bytes) (column_value o (column_at (slice_get db.tables table) c.args.column.now)) c.value_at.result) row

@@ -1,4 +1,4 @@
-use Rattle.std.proofs.Common.{◌≡◌, ◌∙◌, None, Option, Ok, ap, sym, subst, slice_get, ℕ}
+use Rattle.std.proofs.Common.{◌≡◌, ◌∙◌, None, Option, Ok, sym, subst, slice_get, ℕ}
 use Rattle.db_model.specs.declared.expression.Special.{Special}
 use Rattle.db_model.specs.Expression.{value_or_zero}
 use Rattle.db_model.specs.Special.{special}

@@ -1,4 +1,4 @@
-use Rattle.std.proofs.Common.{◌≡◌, ◌+◌, ◌≤◌, take, drop, length, ap, Ok, sym, subst}
+use Rattle.std.proofs.Common.{◌≡◌, ◌+◌, ◌≤◌, take, drop, length, Ok, sym, subst}
 use Rattle.db_model.specs.declared.value.Value.TheVariants.{Buf}
 use Rattle.db_model.specs.Expression.{slice, buf}
 use Rattle.expr_eval.specs.declared.operand.Operand.{Operand}

@@ -1,5 +1,4 @@
-use Rattle.std.proofs.Common.{sym, ap, ◌∙◌, ◌++◌}
-use Rattle.expr_text.specs.Printing.{operand, printing}
+use Rattle.std.proofs.Common.{sym, ap, ◌∙◌}
 use Rattle.db_model.specs.declared.expression.Expr as expr
 use Rattle.expr_text.proofs.PrintedForms.{adds_form, two_pieces, adds_conjunction, adds_disjunction, adds_slice, printing_not, printing_and, printing_or, printing_binary, printing_slice, printing_to_number, printing_length_of, printing_to_bytes, printing_has_text, printing_look_up}
 use Rattle.expr_text.proofs.print.+print.Goals as goal
@@ -22,14 +21,14 @@ push_expr-returns-in-HasText t c = adds_form c.args.e.now _ _ _ _ _ (c.in-HasTex
 pub push_expr-returns-in-LookUp : goal.push_expr-returns-in-LookUp
 push_expr-returns-in-LookUp t c = adds_form c.args.e.now _ _ _ _ _ (c.in-LookUp.is ∙ ap (expr.LookUp c.in-LookUp.table c.in-LookUp.renew) (sym c.as_slice-in-LookUp.ensures)) (printing_look_up c.in-LookUp.table c.in-LookUp.renew c.as_slice-in-LookUp.result.now) c.push_look_up.ensures
 
-pub push_expr-returns-in_ok-push_left-in-And : goal.push_expr-returns-in_ok-push_left-in-And
-push_expr-returns-in_ok-push_left-in-And t c = adds_form c.args.e.now _ _ _ _ _ (c.in-And.is ∙ (λ i. expr.And (sym c.get-in-And.ensures i) (sym c.get-in-And-2.ensures i))) (printing_and c.get-in-And.result.now c.get-in-And-2.result.now) (adds_conjunction c.push_operand.result c.args.text.now.items c.push_left.new.text.items c.push_operand.new.text.items _ _ c.in_ok-push_left-in-And.ensures c.push_operand.ensures)
+pub push_expr-returns-in_ok-push_left_word-in-And : goal.push_expr-returns-in_ok-push_left_word-in-And
+push_expr-returns-in_ok-push_left_word-in-And t c = adds_form c.args.e.now _ _ _ _ _ (c.in-And.is ∙ (λ i. expr.And (sym c.get-in-And.ensures i) (sym c.get-in-And-2.ensures i))) (printing_and c.get-in-And.result.now c.get-in-And-2.result.now) (adds_conjunction c.push_operand.result c.args.text.now.items c.push_left_word.new.text.items c.push_operand.new.text.items _ _ c.in_ok-push_left_word-in-And.ensures c.push_operand.ensures)
 
-pub push_expr-returns-in_ok-push_left-in-Or : goal.push_expr-returns-in_ok-push_left-in-Or
-push_expr-returns-in_ok-push_left-in-Or t c = adds_form c.args.e.now _ _ _ _ _ (c.in-Or.is ∙ (λ i. expr.Or (sym c.get-in-Or.ensures i) (sym c.get-in-Or-2.ensures i))) (printing_or c.get-in-Or.result.now c.get-in-Or-2.result.now) (adds_disjunction c.push_operand-in-Or.result c.args.text.now.items c.push_left-in-Or.new.text.items c.push_operand-in-Or.new.text.items _ _ c.in_ok-push_left-in-Or.ensures c.push_operand-in-Or.ensures)
+pub push_expr-returns-in_ok-push_left_word-in-Or : goal.push_expr-returns-in_ok-push_left_word-in-Or
+push_expr-returns-in_ok-push_left_word-in-Or t c = adds_form c.args.e.now _ _ _ _ _ (c.in-Or.is ∙ (λ i. expr.Or (sym c.get-in-Or.ensures i) (sym c.get-in-Or-2.ensures i))) (printing_or c.get-in-Or.result.now c.get-in-Or-2.result.now) (adds_disjunction c.push_operand-in-Or.result c.args.text.now.items c.push_left_word-in-Or.new.text.items c.push_operand-in-Or.new.text.items _ _ c.in_ok-push_left_word-in-Or.ensures c.push_operand-in-Or.ensures)
 
-pub push_expr-returns-in_ok-push_left-in-Binary : goal.push_expr-returns-in_ok-push_left-in-Binary
-push_expr-returns-in_ok-push_left-in-Binary t c = adds_form c.args.e.now _ _ _ _ _ (c.in-Binary.is ∙ (λ i. expr.Binary c.in-Binary.operator (sym c.get-in-Binary.ensures i) (sym c.get-in-Binary-2.ensures i))) (printing_binary c.in-Binary.operator c.get-in-Binary.result.now c.get-in-Binary-2.result.now) (two_pieces c.push_operand-in-Binary.result c.args.text.now.items c.push_left-in-Binary.new.text.items c.push_operand-in-Binary.new.text.items _ _ _ (c.in_ok-push_left-in-Binary.ensures ∙ ap (λ s. c.args.text.now.items ++ (operand (printing c.get-in-Binary.result.now) ++ s)) c.operator_text.ensures) c.push_operand-in-Binary.ensures)
+pub push_expr-returns-in_ok-push_left_operator-in-Binary : goal.push_expr-returns-in_ok-push_left_operator-in-Binary
+push_expr-returns-in_ok-push_left_operator-in-Binary t c = adds_form c.args.e.now _ _ _ _ _ (c.in-Binary.is ∙ (λ i. expr.Binary c.in-Binary.operator (sym c.get-in-Binary.ensures i) (sym c.get-in-Binary-2.ensures i))) (printing_binary c.in-Binary.operator c.get-in-Binary.result.now c.get-in-Binary-2.result.now) (two_pieces c.push_operand-in-Binary.result c.args.text.now.items c.push_left_operator.new.text.items c.push_operand-in-Binary.new.text.items _ _ _ c.in_ok-push_left_operator-in-Binary.ensures c.push_operand-in-Binary.ensures)
 
 pub push_expr-returns-in_ok-push_before-in-Slice : goal.push_expr-returns-in_ok-push_before-in-Slice
-push_expr-returns-in_ok-push_before-in-Slice t c = adds_form c.args.e.now _ _ _ _ _ (c.in-Slice.is ∙ (λ i. expr.Slice (sym c.get-in-Slice.ensures i) (sym c.get-in-Slice-2.ensures i) (sym c.get-in-Slice-3.ensures i))) (printing_slice c.get-in-Slice.result.now c.get-in-Slice-2.result.now c.get-in-Slice-3.result.now) (adds_slice c.push_before-in-Slice.result c.args.text.now.items c.push_left-in-Slice.new.text.items c.push_before.new.text.items c.push_before-in-Slice.new.text.items _ _ _ c.in_ok-push_left-in-Slice.ensures c.in_ok-push_before-in-Slice.ensures c.push_before-in-Slice.ensures)
+push_expr-returns-in_ok-push_before-in-Slice t c = adds_form c.args.e.now _ _ _ _ _ (c.in-Slice.is ∙ (λ i. expr.Slice (sym c.get-in-Slice.ensures i) (sym c.get-in-Slice-2.ensures i) (sym c.get-in-Slice-3.ensures i))) (printing_slice c.get-in-Slice.result.now c.get-in-Slice-2.result.now c.get-in-Slice-3.result.now) (adds_slice c.push_before-in-Slice.result c.args.text.now.items c.push_left.new.text.items c.push_before.new.text.items c.push_before-in-Slice.new.text.items _ _ _ c.in_ok-push_left-in-Slice.ensures c.in_ok-push_before-in-Slice.ensures c.push_before-in-Slice.ensures)

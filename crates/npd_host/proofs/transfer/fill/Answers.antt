@@ -8,7 +8,9 @@ loop-done-preserved g c =
     let now = c.in_ok-count.ensures in record {
       within = omega arith;
       gave = rw (take-put_mid_front c.loop-done.done _ c.in_ok-count.count c.loop-done.buf c.read.new.buf before.within (omega arith)) (gave_then _ _ _ _ _ _ before.gave now.gave);
-      outputs = now.outputs ∙ before.outputs;
-      files = now.files ∙ before.files;
-      later = λ kind name. omega (arith, before.later kind name, now.later kind name);
+      frame = record {
+        outputs = now.frame.outputs ∙ before.frame.outputs;
+        files = now.frame.files ∙ before.frame.files;
+        later = λ kind name. omega (arith, before.frame.later kind name, now.frame.later kind name);
+      };
     }

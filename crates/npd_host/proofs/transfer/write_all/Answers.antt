@@ -9,7 +9,9 @@ loop-done-preserved g c =
     let fits = now.bound.1 in record {
       within = omega (arith, simp (length-take, length-drop) at fits);
       took = rw (← take-rest_front c.loop-done.done c.in_ok-done.field-0 c.args.bytes.now) (took_then _ _ _ _ _ _ before.took now.took);
-      inputs = now.inputs ∙ before.inputs;
-      files = now.files ∙ before.files;
-      later = λ kind name. omega (arith, before.later kind name, now.later kind name);
+      frame = record {
+        inputs = now.frame.inputs ∙ before.frame.inputs;
+        files = now.frame.files ∙ before.frame.files;
+        later = λ kind name. omega (arith, before.frame.later kind name, now.frame.later kind name);
+      };
     }

@@ -1,5 +1,5 @@
-use Rattle.std.proofs.Common.{◌≡◌, ◌≤◌, ◌-◌, length, take}
-use Rattle.npd_host.specs.Host.{Took, NoneFalls}
+use Rattle.std.proofs.Common.{◌≤◌, ◌-◌, length, take}
+use Rattle.npd_host.specs.Host.{Took, MovesOutputsOnly}
 use Rattle.npd_host.proofs.transfer.write_all.Given as goal
 
 -- the bytes before `done` were taken, and nothing else moved
@@ -7,9 +7,7 @@ abbrev pub invariant-loop-done : goal.invariant-loop-done
 invariant-loop-done g l = record {
   within : l.done ≤ length l.bytes;
   took : Took l.id.0 (g.H.Host.outputs l.fn.host) (g.H.Host.outputs l.host) (take l.done l.bytes);
-  inputs : g.H.Host.inputs l.host ≡ g.H.Host.inputs l.fn.host;
-  files : g.H.Host.files l.host ≡ g.H.Host.files l.fn.host;
-  later : NoneFalls (g.H.Host.faults l.fn.host) (g.H.Host.faults l.host);
+  frame : MovesOutputsOnly g.H.Host.inputs g.H.Host.files g.H.Host.faults l.fn.host l.host;
 }
 
 abbrev pub decreases-loop-done : goal.decreases-loop-done

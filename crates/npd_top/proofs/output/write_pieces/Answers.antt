@@ -21,9 +21,7 @@ returns-in_err-write_piece-clause-takes g c =
 pub loop-packet-init : goal.loop-packet-init
 loop-packet-init g c = record {
   took = rw (← (open_text-none c.args.db.now)) (rw c.opening.ensures at c.in_ok-write_piece.ensures.takes);
-  inputs = c.in_ok-write_piece.ensures.inputs;
-  files = c.in_ok-write_piece.ensures.files;
-  later = c.in_ok-write_piece.ensures.later;
+  frame = c.in_ok-write_piece.ensures.frame;
 }
 
 pub returns-in-Err-clause-takes : goal.returns-in-Err-clause-takes
@@ -54,14 +52,17 @@ loop-packet-preserved g c =
     let l = c.loop-packet in
     let db = c.args.db.now in
     let packets = c.args.packets.now in
+    let written = c.in_ok-write_piece-2.ensures.frame in
     record {
       took =
           rw (open_text-more db packets l.packet-index c.packet-item.result c.loop-packet-test.true c.packet-item.is)
           (took_then c.args.id.0 (g.H.Host.outputs c.args.host.now) (g.H.Host.outputs l.host) (g.H.Host.outputs c.write_piece-in-loop-packet.new.host)
           (open_text db (take l.packet-index packets)) (packet_text db c.packet-item.result) l.invariant.took (rw (c.as_slice.ensures.value, c.in-Ok.ensures) at c.in_ok-write_piece-2.ensures.takes));
-      inputs = c.in_ok-write_piece-2.ensures.inputs ∙ l.invariant.inputs;
-      files = c.in_ok-write_piece-2.ensures.files ∙ l.invariant.files;
-      later = λ kind name. omega (arith, c.in_ok-write_piece-2.ensures.later kind name, l.invariant.later kind name);
+      frame = record {
+        inputs = written.inputs ∙ l.invariant.frame.inputs;
+        files = written.files ∙ l.invariant.frame.files;
+        later = λ kind name. omega (arith, written.later kind name, l.invariant.frame.later kind name);
+      };
     }
 
 pub returns-clause-takes : goal.returns-clause-takes

@@ -21,9 +21,7 @@ returns-in-Ok-Packet g c =
       again = search rules;
       stamp = rw found_is at c.in-Ok-Packet.ensures.stamp;
       inputs = rw found_is at c.in-Ok-Packet.ensures.inputs;
-      outputs = search rules;
-      files = search rules;
-      later = search rules;
+      frame = search rules;
       cause = search rules;
     })
 
@@ -44,9 +42,7 @@ returns-in-Ok-End g c =
       again = search rules;
       stamp = search rules;
       inputs = rw found_is at c.in-Ok-End.ensures.inputs;
-      outputs = search rules;
-      files = search rules;
-      later = search rules;
+      frame = search rules;
       cause = search rules;
     })
 
@@ -67,9 +63,7 @@ returns-in-Ok-Broken g c =
       again = search rules;
       stamp = search rules;
       inputs = rw found_is at c.in-Ok-Broken.ensures.inputs;
-      outputs = search rules;
-      files = search rules;
-      later = search rules;
+      frame = search rules;
       cause = search rules;
     })
 
@@ -91,8 +85,6 @@ returns-in-Err g c =
         gave = read.gave;
         taken = Takes-refusal c.in-Err.fail r.form r.number read.bytes read.taken;
       };
-      outputs = search rules;
-      files = search rules;
-      later = search rules;
+      frame = search rules;
       cause = λ e. c.in-Err.ensures.cause (ap Err (refusal-failed c.in-Err.fail (cc)));
     })

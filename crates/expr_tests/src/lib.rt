@@ -1,0 +1,5 @@
+//! Tests of expressions over the built crates.
+#![tactic(auto)]
+
+#[cfg(test)]
+mod text;

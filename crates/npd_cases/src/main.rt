@@ -1,0 +1,56 @@
+//! Whole runs of npd's top call, as cases that stand in a text: `cases.txt` of the folder where this runs. A case
+//! that doesn't come out as it says is printed with its line that doesn't hold; the last line counts them.
+#![tactic(auto)]
+
+mod case;
+mod output;
+
+use case::Case;
+use std::process::ExitCode;
+use std::rt::Files;
+use std::{fs, io};
+
+/// Whether a case holds. The first line that doesn't is printed.
+fn holds(rt: &(impl Files + AllocGlobal + Print), lines: &str) -> io::Result<bool> {
+    let (head, rest) = lines.split_once('\n').unwrap_or((lines, ""));
+    let Some(mut case) = Case::begin(rt.alloc(), head) else {
+        println!(rt; "{head}: no case begins so")?;
+        return Ok(false);
+    };
+    for line in rest.lines() {
+        if !case.takes(rt, line) {
+            println!(rt; "{head}: {line} (ended {})", case.end())?;
+            return Ok(false);
+        }
+    }
+    if !case.is_judged() {
+        println!(rt; "{head}: it doesn't say how it ends")?;
+    }
+    Ok(case.is_judged())
+}
+
+/// Whether all cases hold, of which there is at least one.
+fn all_hold(rt: &(impl Files + AllocGlobal + Print)) -> io::Result<bool> {
+    let text = fs::read_to_string(rt, "cases.txt")?;
+    let mut count = 0u32;
+    let mut failed = 0u32;
+    for lines in text.trim_end().split("\n\n") {
+        count = count.saturating_add(1);
+        if !holds(rt, lines)? {
+            failed = failed.saturating_add(1);
+        }
+    }
+    println!(rt; "{count} cases, {failed} failed")?;
+    Ok(failed == 0)
+}
+
+fn main(rt: HostRuntime) -> ExitCode {
+    match all_hold(&rt) {
+        Ok(true) => ExitCode::SUCCESS,
+        Ok(false) => ExitCode::FAILURE,
+        Err(_) => {
+            let _ = rt.eprint("npd_cases: cases.txt isn't read, or the outcome isn't printed\n");
+            ExitCode::from(2)
+        }
+    }
+}
