@@ -1,3 +1,4 @@
+mod Each
 mod Least
 mod Means
 mod NoLiteral

@@ -19,7 +19,7 @@ use Rattle.db_load.specs.Rules.{children}
 use Rattle.db_load.specs.Words.{spelled}
 use Rattle.db_load.proofs.Parts.{first_left}
 
-append_assoc : {A : Type 0} (xs ys zs : List A) → (xs ++ ys) ++ zs ≡ xs ++ (ys ++ zs)
+pub append_assoc : {A : Type 0} (xs ys zs : List A) → (xs ++ ys) ++ zs ≡ xs ++ (ys ++ zs)
 append_assoc [] ys zs = refl
 append_assoc (x ∷ xs) ys zs = ap (λ l. x ∷ l) (append_assoc xs ys zs)
 

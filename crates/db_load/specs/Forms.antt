@@ -18,7 +18,8 @@ use Rattle.db_load.specs.declared.rule.Form.{Form}
 use Rattle.db_load.specs.declared.rule.Form.TheVariants as form
 use Rattle.db_load.specs.declared.word.Word.{Word}
 use Rattle.db_load.specs.declared.choice.TheConstants as words
-use Rattle.db_load.specs.Parsed.{parsed, literal_of, quoted_of}
+use Rattle.db_load.specs.Parsed.{literal_of, quoted_of}
+use Rattle.expr_text.specs.Parsed.{parsed}
 use Rattle.db_load.specs.Words.{spelled}
 
 -- ---- numbers and masks

@@ -6,9 +6,7 @@ use Rattle.db_model.specs.declared.expression.Literal.{Literal}
 use Rattle.db_model.specs.declared.expression.Literal.TheVariants as literal
 use Rattle.db_model.specs.Folds.{fold_expr}
 use Rattle.db_model.specs.Names.{Text}
-
-unfoldable pub parsed : Text → Option Expr
-parsed t = None
+use Rattle.expr_text.specs.Parsed.{parsed}
 
 -- an expression that is one number, one text or one protocol
 abbrev pub literal_step : Expr-F (Option Literal) → Option Literal

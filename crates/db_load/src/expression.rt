@@ -2,19 +2,21 @@
 
 ghost use Rattle.std.specs.Prelude.{◌≡◌, IfOk, Some};
 ghost use Rattle.db_load.specs.Parsed;
+ghost use Rattle.expr_text.specs.Parsed.{parsed};
 
 use db_model::{Bytes, Expr, Literal, Name, NoMemory};
+use expr_text::{ExprFail, parse_expr};
 use std::alloc::Global;
 
 /// The expression that a value is, if it is one.
-#[tactic(auto, unfolding(crate::specs::Parsed::parsed))]
-pub fn parsed(_alloc: Global, value: &[u8]) -> Result<Option<Expr>, NoMemory>
-    ensures { IfOk result (λ r. r ≡ Parsed.parsed value.now) }
+pub fn parsed(alloc: Global, value: &[u8]) -> Result<Option<Expr>, NoMemory>
+    ensures { IfOk result (λ e. e ≡ parsed value.now) }
 {
-    if value.len() == 0 {
-        return Ok(None);
+    match parse_expr(alloc, value) {
+        Ok(e) => Ok(Some(e)),
+        Err(ExprFail::Fault { .. }) => Ok(None),
+        Err(ExprFail::NoMemory) => Err(NoMemory),
     }
-    Ok(None)
 }
 
 /// What an expression is as a literal.

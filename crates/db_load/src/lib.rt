@@ -7,11 +7,13 @@ mod child_table;
 mod choice;
 mod element;
 mod expression;
+mod fail;
 mod fault;
 mod form;
 mod from_node;
 mod kind;
 mod levels;
+mod load;
 mod number;
 
 mod protocol;
@@ -26,7 +28,9 @@ mod word;
 
 pub use child_table::{children, is_ordered};
 pub use choice::is_choice;
+pub use fail::DbFail;
 pub use fault::Fault;
+pub use load::load_database;
 pub use form::{has_form, is_parsed, is_section, is_text, is_variable_name};
 pub use number::{mask_of, number_of};
 pub use kind::{Kind, ListKind};

@@ -1,4 +1,5 @@
-use Rattle.std.proofs.Common.{ap, ◌∙◌, ◌++◌}
+use Rattle.std.specs.Prelude.{bytes_eq}
+use Rattle.std.proofs.Common.{ap, sym, ◌∙◌, ◌++◌}
 use Rattle.db_load.specs.Meaning.{branch_by}
 use Rattle.db_load.proofs.Means.{first_so, first_not, list_step, branch_of}
 use Rattle.db_load.proofs.element.+conversion.Goals as goal
@@ -7,7 +8,7 @@ pub list-loop-node-preserved : goal.list-loop-node-preserved
 list-loop-node-preserved t c = list_step c.args.rows.now c.args.nodes.now c.loop-node.node-index c.node-item.result c.as_slice.result.now c.row_of.result c.loop-node.elements c.push_some.new.items _ c.loop-node-test.true c.node-item.is c.as_slice.ensures c.row_of.ensures (c.in_ok-push_some.ensures ∙ ap (λ l. c.loop-node.elements ++ l) c.in_ok-placed.ensures) c.loop-node.invariant
 
 pub branch-returns-then-eq : goal.branch-returns-then-eq
-branch-returns-then-eq t c = first_so c.args.word (branch_by c.args.of) c.args.nodes.now c.loop-node.node-index c.node-item.result c.as_slice.result.now _ _ c.loop-node-test.true c.node-item.is c.as_slice.ensures c.if-eq.ensures (branch_of c.args.of c.node-item.result c.in_ok-body.body c.in_ok-body.ensures) c.loop-node.invariant
+branch-returns-then-eq t c = first_so c.args.word (branch_by c.args.of) c.args.nodes.now c.loop-node.node-index c.node-item.result c.as_slice.result.now _ _ c.loop-node-test.true c.node-item.is c.as_slice.ensures (ap (λ w. bytes_eq c.as_slice.result.now w) (sym c.spelled.ensures) ∙ c.if-eq.ensures) (branch_of c.args.of c.node-item.result c.in_ok-body.body c.in_ok-body.ensures) c.loop-node.invariant
 
 pub branch-loop-node-preserved : goal.branch-loop-node-preserved
-branch-loop-node-preserved t c = first_not c.args.word (branch_by c.args.of) c.args.nodes.now c.loop-node.node-index c.node-item.result c.as_slice.result.now _ c.loop-node-test.true c.node-item.is c.as_slice.ensures c.if-eq.ensures c.loop-node.invariant
+branch-loop-node-preserved t c = first_not c.args.word (branch_by c.args.of) c.args.nodes.now c.loop-node.node-index c.node-item.result c.as_slice.result.now _ c.loop-node-test.true c.node-item.is c.as_slice.ensures (ap (λ w. bytes_eq c.as_slice.result.now w) (sym c.spelled.ensures) ∙ c.if-eq.ensures) c.loop-node.invariant
