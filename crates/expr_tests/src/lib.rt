@@ -2,4 +2,6 @@
 #![tactic(auto)]
 
 #[cfg(test)]
+mod evaluation;
+#[cfg(test)]
 mod text;

@@ -17,3 +17,4 @@ pub mod ReadsBack
 pub mod Skipping
 pub mod WellFormed
 pub mod Words
+pub mod Slices

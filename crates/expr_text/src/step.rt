@@ -1,4 +1,4 @@
-ghost use Rattle.std.specs.Prelude.{◌≡◌, List, [], ◌∷◌, ◌++◌, IfOk};
+ghost use Rattle.std.specs.Prelude.{◌≡◌, List, [], ◌∷◌, ◌++◌, IfOk, IfSome, IfNone, length};
 ghost use Rattle.expr_text.specs.Machine;
 ghost use Rattle.expr_text.specs.Tokens;
 ghost use Rattle.expr_text.specs.declared.machine.Begun.TheVariants as Begun;
@@ -204,17 +204,28 @@ fn slice(alloc: Global, base: Expr, from: Expr, count: Expr) -> Result<Expr, NoM
     Ok(Expr::Slice { base, from, count })
 }
 
+/// The two parts, where there are two.
+fn pair(parts: &mut Items<Expr>) -> Option<(Expr, Expr)>
+    ensures two { IfSome result (λ p. parts.old ≡ p.0 ∷ (p.1 ∷ [])) }
+    ensures other { IfNone result (length parts.old ≡ 2 → ⊥) }
+{
+    if parts.len() != 2 {
+        return None;
+    }
+    let second = parts.pop()?;
+    let first = parts.pop()?;
+    Some((first, second))
+}
+
 /// A slice of its base and its first place, and of its length.
+#[tactic(auto, using(crate::proofs::Slices::not_two))]
 fn sliced(alloc: Global, parts: Items<Expr>, count: Expr) -> Result<Expr, NoMemory>
     ensures { IfOk result (λ e. e ≡ Machine.sliced parts count) }
 {
     let mut parts = parts;
-    let Some(from) = parts.pop() else {
-        return Ok(count);
-    };
-    match parts.pop() {
-        Some(base) if parts.is_empty() => slice(alloc, base, from, count),
-        _ => Ok(count),
+    match pair(&mut parts) {
+        Some((base, from)) => slice(alloc, base, from, count),
+        None => Ok(count),
     }
 }
 
