@@ -288,10 +288,12 @@ fn condition_of(
     ensures { result ≡ Meaning.condition line expr so otherwise }
 {
     match so {
-        Some(Branch {
-            line: true_line,
-            body,
-        }) => Element::If {
+        Some(
+            Branch {
+                line: true_line,
+                body,
+            },
+        ) => Element::If {
             line,
             expr,
             true_line,

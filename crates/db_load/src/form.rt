@@ -10,8 +10,8 @@ use crate::choice::{
     ENTRY_VALIDITIES, FIELD_TYPES, HEADER_PARTS, LOOP_CONTROLS, LOOP_TYPES, SHOW_TYPES,
     UPDATE_ACTIONS, VALUE_TYPES, VARIABLE_VALIDITIES, is_choice,
 };
-use crate::number::{mask_of, number_of};
 use crate::expression::{literal_of, parsed, quoted_of};
+use crate::number::{mask_of, number_of};
 use db_model::{MOST_NAME, MOST_SEPARATOR, MOST_TEXT, NoMemory, is_name};
 use std::alloc::Global;
 

@@ -15,7 +15,6 @@ mod kind;
 mod levels;
 mod load;
 mod number;
-
 mod protocol;
 mod rule;
 mod rule_table;
@@ -28,14 +27,14 @@ mod word;
 
 pub use child_table::{children, is_ordered};
 pub use choice::is_choice;
+pub use expression::{literal_of, parsed, quoted_of};
 pub use fail::DbFail;
 pub use fault::Fault;
-pub use load::load_database;
 pub use form::{has_form, is_parsed, is_section, is_text, is_variable_name};
-pub use number::{mask_of, number_of};
 pub use kind::{Kind, ListKind};
 pub use levels::MOST_LEVELS;
-pub use expression::{literal_of, parsed, quoted_of};
+pub use load::load_database;
+pub use number::{mask_of, number_of};
 pub use protocol::database_of;
 pub use rule::{Child, Form, Need, Rule};
 pub use rule_table::rules;

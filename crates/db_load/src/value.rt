@@ -5,10 +5,10 @@ ghost use Rattle.std.specs.Option.{option_copied};
 ghost use Rattle.db_load.specs.Forms;
 ghost use Rattle.db_load.specs.Values;
 
+use crate::Word;
 use crate::expression::{literal_of, parsed, quoted_of};
 use crate::form::{is_section, is_text};
 use crate::number::{mask_of, number_of};
-use crate::Word;
 use db_model::{
     Bytes, Expr, HeaderPart, Literal, LoopControl, LoopKind, MOST_SEPARATOR, Name, NoMemory,
     ShowType, Ty, Validity, is_name,

@@ -24,20 +24,18 @@ fn earlier(a: Option<Fault>, b: Option<Fault>) -> Option<Fault>
     match (a, b) {
         (None, _) => b,
         (Some(_), None) => a,
-        (Some(f), Some(g)) => {
-            if comes_first(f, g) {
-                a
-            } else {
-                b
-            }
-        }
+        (Some(f), Some(g)) => { if comes_first(f, g) { a } else { b } }
     }
 }
 
 fn at_line(line: u32, code: u8, stands: bool) -> Option<Fault>
     ensures { result ≡ Faults.least (Faults.at_line line code stands) }
 {
-    if stands { Some(Fault { line, code }) } else { None }
+    if stands {
+        Some(Fault { line, code })
+    } else {
+        None
+    }
 }
 
 fn is_astray(kind: Kind) -> bool
@@ -60,7 +58,10 @@ fn of_attributes(alloc: Global, kind: Kind, node: &Node) -> Result<Option<Fault>
     let decided = decided(alloc, kind, attributes)?;
     let malformed = has_malformed(alloc, false, decided, rules, attributes)?;
     let misparsed = has_malformed(alloc, true, decided, rules, attributes)?;
-    let values = earlier(at_line(node.line, 23, malformed), at_line(node.line, 24, misparsed));
+    let values = earlier(
+        at_line(node.line, 23, malformed),
+        at_line(node.line, 24, misparsed),
+    );
     let missing = at_line(node.line, 22, lacks(decided, attributes, rules));
     let stray = at_line(node.line, 21, has_stray(decided, rules, attributes));
     Ok(earlier(stray, earlier(missing, values)))
@@ -74,7 +75,10 @@ fn of_place(kind: Kind, left: u32, node: &Node) -> Option<Fault>
     let line = node.line;
     let inside = has_wrong_children(kind, node.children.as_slice());
     let astray = at_line(line, 27, is_astray(kind));
-    earlier(at_line(line, 25, inside), earlier(at_line(line, 26, left == 0), astray))
+    earlier(
+        at_line(line, 25, inside),
+        earlier(at_line(line, 26, left == 0), astray),
+    )
 }
 
 /// The least fault of an element and of all that stands in it, where so many levels may still stand in it.
@@ -82,7 +86,10 @@ fn of_place(kind: Kind, left: u32, node: &Node) -> Option<Fault>
 fn inside(alloc: Global, kind: Kind, left: u32, node: &Node) -> Result<Option<Fault>, NoMemory>
     ensures { IfOk result (λ f. f ≡ Faults.least (Faults.faults kind left node.now)) }
 {
-    let own = earlier(of_attributes(alloc, kind, node)?, of_place(kind, left, node));
+    let own = earlier(
+        of_attributes(alloc, kind, node)?,
+        of_place(kind, left, node),
+    );
     let nodes = node.children.as_slice();
     let below = below(alloc, children(kind), left.saturating_sub(1), nodes)?;
     Ok(earlier(own, below))
