@@ -1,18 +1,15 @@
 -- What an element means, from what it holds.
-use Rattle.std.specs.Prelude.{◌≡◌, ℕ, ◌+◌, ◌<◌, Bool, true, false, bytes_eq, if◌then◌else◌, List, [], ◌∷◌, ◌++◌, map, length, drop, get_or, Option, Some, None}
-use Rattle.std.proofs.Common.{refl, ap, sym, ◌∙◌, arith}
-use Rattle.std.proofs.lemmas.Grind.{common_steps}
+use Rattle.std.specs.Prelude.{◌≡◌, ℕ, ◌+◌, ◌<◌, Bool, true, false, bytes_eq, if◌then◌else◌, List, [], ◌∷◌, ◌++◌, map, length, drop, get_or, Option, Some}
+use Rattle.std.proofs.Common.{refl, ap, sym, ◌∙◌}
 use Rattle.db_model.specs.declared.element.Element.{Element}
 use Rattle.db_model.specs.Names.{Text}
-use Rattle.db_text.specs.declared.node.Attribute.{Attribute}
-use Rattle.db_text.specs.declared.node.Node.{Node, out-Node, map-Node}
-use Rattle.db_text.specs.declared.node.Node.TheFolds.{fold-Node, fold_out-Node}
+use Rattle.db_text.specs.declared.node.Node.{Node, out-Node}
+use Rattle.db_text.specs.declared.node.Node.TheFolds.{fold_out-Node}
 use Rattle.db_load.specs.declared.kind.Kind.{Kind}
 use Rattle.db_load.specs.declared.word.Word.{Word}
 use Rattle.db_load.specs.declared.rule.Child.{Child}
 use Rattle.db_load.specs.declared.kind.Kind.TheVariants as kind
 use Rattle.db_load.specs.declared.kind.ListKind.{ListKind}
-use Rattle.db_model.specs.declared.element.Branch.{Branch}
 use Rattle.db_load.specs.Faults.{row_of}
 use Rattle.db_load.specs.Meaning.{Meant, meant, meant_step, layer, element_by, list_by, named, first_named, placed, branch_from, branch_by}
 use Rattle.db_load.specs.Rules.{children}

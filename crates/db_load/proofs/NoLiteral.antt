@@ -1,5 +1,5 @@
 -- An expression of any other form is no literal.
-use Rattle.std.specs.Prelude.{◌≡◌, ℕ, List, Option, Some, None}
+use Rattle.std.specs.Prelude.{◌≡◌, ℕ, List, Option, None}
 use Rattle.std.proofs.Common.{refl}
 use Rattle.db_model.specs.declared.expression.Expr as expr
 use Rattle.db_model.specs.declared.expression.Expr.{Expr, end_of-Expr, more_of-Expr}

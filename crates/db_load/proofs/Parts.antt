@@ -4,7 +4,7 @@ use Rattle.std.proofs.Common.{refl, ap, sym, ◌∙◌, arith}
 use Rattle.std.proofs.lemmas.Grind.{common_steps}
 use Rattle.db_model.specs.Names.{Text}
 use Rattle.db_text.specs.declared.node.Node.{Node, out-Node, map-Node}
-use Rattle.db_text.specs.declared.node.Node.TheFolds.{fold-Node, fold_out-Node}
+use Rattle.db_text.specs.declared.node.Node.TheFolds.{fold_out-Node}
 use Rattle.db_load.specs.declared.fault.Fault.{Fault}
 use Rattle.db_load.specs.declared.kind.Kind.{Kind}
 use Rattle.db_load.specs.declared.kind.Kind.TheVariants as kind

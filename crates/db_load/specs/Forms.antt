@@ -3,10 +3,6 @@ use Rattle.std.specs.Prelude.{ℕ, Bool, true, false, ◌&&◌, if◌then◌else
 use Rattle.std.specs.Char.{is_ascii_digit, is_ascii_hexdigit}
 use Rattle.std.specs.List.{list_all}
 use Rattle.std.specs.Str.Parse.{digits_value}
-use Rattle.db_model.specs.declared.expression.Expr.{Expr}
-use Rattle.db_model.specs.declared.expression.Expr as expr
-use Rattle.db_model.specs.declared.expression.Literal.{Literal}
-use Rattle.db_model.specs.declared.expression.Literal.TheVariants as literal
 use Rattle.hex.specs.Hex.{decode_of}
 use Rattle.hex.specs.declared.error.FromHexError.{FromHexError}
 use Rattle.db_model.specs.declared.bytes.TheConstants.{MOST_BYTES}

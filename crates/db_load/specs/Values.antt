@@ -1,5 +1,5 @@
 -- What the value of an attribute means. Each meaning is total: a value that is missing or hasn't its form, which is a fault, means some value of its kind.
-use Rattle.std.specs.Prelude.{ℕ, Bool, true, false, ◌&&◌, ◌==◌, nat_le, nat_lt, if◌then◌else◌, List, [], ◌∷◌, take, length, bytes_eq, unwrap_or, Option, Some, None, Result, Ok, Err}
+use Rattle.std.specs.Prelude.{ℕ, Bool, false, ◌&&◌, ◌==◌, nat_le, if◌then◌else◌, List, [], ◌∷◌, length, bytes_eq, unwrap_or, Option, Some, None}
 use Rattle.db_model.specs.declared.database.HeaderPart.{HeaderPart}
 use Rattle.db_model.specs.declared.database.HeaderPart.TheVariants as header
 use Rattle.db_model.specs.declared.database.ShowType.{ShowType}

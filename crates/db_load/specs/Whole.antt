@@ -1,5 +1,5 @@
 -- The database that the top element without faults means: its declarations, each kind in its order.
-use Rattle.std.specs.Prelude.{ℕ, Bool, true, false, if◌then◌else◌, List, [], ◌∷◌, ◌++◌, bytes_eq, Option, Some, None}
+use Rattle.std.specs.Prelude.{ℕ, Bool, if◌then◌else◌, List, [], ◌∷◌, bytes_eq, Option, Some, None}
 use Rattle.db_model.specs.declared.database.ColumnDecl.{ColumnDecl}
 use Rattle.db_model.specs.declared.database.Database.{Database}
 use Rattle.db_model.specs.declared.database.ElementList.{ElementList}

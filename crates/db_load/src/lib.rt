@@ -1,4 +1,6 @@
-//! From the elements of a database text to the database that they are.
+//! The database that a text is. `load_database` gives it exactly where the text has elements without a fault of
+//! shape; else the line and the code of the fault: the text's, or of all faults of shape the one of the least line,
+//! and there of the least code. What may stand where, with what attributes, is one table (`rules`, `children`).
 #![tactic(auto)]
 
 mod attribute;

@@ -12,7 +12,10 @@ const CASES: [(&[u8], Fault); 38] = [
     (b"<netpdl>", Some((1, 2))),
     (b"<x/>", Some((1, 20))),
     (b"<netpdl>\n<x/>\n</netpdl>", Some((2, 20))),
-    (b"<netpdl>\n<field name='a' type='line'/></netpdl>", Some((2, 20))),
+    (
+        b"<netpdl>\n<field name='a' type='line'/></netpdl>",
+        Some((2, 20)),
+    ),
     (b"<netpdl>\n<x>\n<protocol/></x></netpdl>", Some((2, 20))),
     (b"<netpdl color='a'/>", Some((1, 21))),
     (b"<netpdl name='a' name='a'/>", Some((1, 21))),
@@ -21,13 +24,34 @@ const CASES: [(&[u8], Fault); 38] = [
     (b"<netpdl>\n<protocol color='a'/></netpdl>", Some((2, 21))),
     (b"<netpdl>\n<protocol name='9'/></netpdl>", Some((2, 23))),
     (b"<netpdl>\n<protocol name='or'/></netpdl>", Some((2, 23))),
-    (b"<netpdl><protocol name='a' longname='' showsum='s'/></netpdl>", None),
-    (b"<netpdl>\n<variable name='a' type='num' value='1'/></netpdl>", Some((2, 23))),
-    (b"<netpdl>\n<variable name='$a' type='int' value='1'/></netpdl>", Some((2, 23))),
-    (b"<netpdl>\n<variable name='$a' type='num' value='1+'/></netpdl>", Some((2, 24))),
-    (b"<netpdl>\n<variable name='$a' type='num' value='1+1'/></netpdl>", Some((2, 24))),
-    (b"<netpdl><variable name='$a' type='num' value='(1)' validity='packet'/></netpdl>", None),
-    (b"<netpdl>\n<lookuptable name='t' exactentries='1' maskentries='0'/></netpdl>", Some((2, 25))),
+    (
+        b"<netpdl><protocol name='a' longname='' showsum='s'/></netpdl>",
+        None,
+    ),
+    (
+        b"<netpdl>\n<variable name='a' type='num' value='1'/></netpdl>",
+        Some((2, 23)),
+    ),
+    (
+        b"<netpdl>\n<variable name='$a' type='int' value='1'/></netpdl>",
+        Some((2, 23)),
+    ),
+    (
+        b"<netpdl>\n<variable name='$a' type='num' value='1+'/></netpdl>",
+        Some((2, 24)),
+    ),
+    (
+        b"<netpdl>\n<variable name='$a' type='num' value='1+1'/></netpdl>",
+        Some((2, 24)),
+    ),
+    (
+        b"<netpdl><variable name='$a' type='num' value='(1)' validity='packet'/></netpdl>",
+        None,
+    ),
+    (
+        b"<netpdl>\n<lookuptable name='t' exactentries='1' maskentries='0'/></netpdl>",
+        Some((2, 25)),
+    ),
     (
         b"<netpdl><lookuptable name='t' exactentries='0x10' maskentries='0'><key name='k' size='4294967295'/></lookuptable></netpdl>",
         None,
@@ -53,8 +77,14 @@ const CASES: [(&[u8], Fault); 38] = [
         b"<netpdl>\n<showsumstruct><section name='No. 1'/></showsumstruct><showsumstruct><section name='b'/></showsumstruct></netpdl>",
         Some((1, 25)),
     ),
-    (b"<netpdl><showsumstruct>\n<section name=''/></showsumstruct></netpdl>", Some((2, 23))),
-    (b"<netpdl>\n<showtemplate name='s' showtype='dec' showsep='123456789'/></netpdl>", Some((2, 23))),
+    (
+        b"<netpdl><showsumstruct>\n<section name=''/></showsumstruct></netpdl>",
+        Some((2, 23)),
+    ),
+    (
+        b"<netpdl>\n<showtemplate name='s' showtype='dec' showsep='123456789'/></netpdl>",
+        Some((2, 23)),
+    ),
     (
         b"<netpdl><protocol name='p'><format><fields>\n<field name='a' type='fixed'/></fields></format></protocol></netpdl>",
         Some((2, 22)),

@@ -1,7 +1,6 @@
 use Rattle.std.proofs.Common.{◌≡◌, drop, take, []}
 use Rattle.std.specs.Option.{option_copied}
 use Rattle.db_load.specs.Faults
-use Rattle.db_load.specs.Words.{spelled}
 use Rattle.db_load.proofs.attribute.has_stray.Given as goal
 
 abbrev pub invariant-loop-i : goal.invariant-loop-i

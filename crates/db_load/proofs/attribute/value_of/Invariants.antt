@@ -1,5 +1,4 @@
-use Rattle.std.proofs.Common.{◌≡◌, drop, take}
-use Rattle.std.specs.Option.{option_copied}
+use Rattle.std.proofs.Common.{◌≡◌, drop}
 use Rattle.db_load.specs.Faults
 use Rattle.db_load.specs.Words.{spelled}
 use Rattle.db_load.proofs.attribute.value_of.Given as goal

@@ -1,6 +1,5 @@
 use Rattle.std.proofs.Common.{◌≡◌, drop}
 use Rattle.db_load.specs.Faults
-use Rattle.db_load.specs.Words.{spelled}
 use Rattle.db_load.proofs.child.row_of.Given as goal
 
 abbrev pub invariant-loop-row : goal.invariant-loop-row
