@@ -7,3 +7,5 @@ mod contents;
 mod faults;
 #[cfg(test)]
 mod limits;
+#[cfg(test)]
+mod load;

@@ -1,0 +1,5 @@
+mod Each
+mod Least
+mod Means
+mod NoLiteral
+mod Parts

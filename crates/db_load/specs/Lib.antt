@@ -1,0 +1,9 @@
+pub mod Answer
+pub mod Faults
+pub mod Forms
+pub mod Meaning
+pub mod Parsed
+pub mod Rules
+pub mod Values
+pub mod Whole
+pub mod Words

@@ -1,0 +1,229 @@
+//! What may stand in each kind of element.
+
+ghost use Rattle.std.specs.Prelude.{◌≡◌};
+ghost use Rattle.db_load.specs.Rules;
+
+use crate::{Child, Kind, ListKind, Word};
+
+macro_rules! child {
+    ($word:ident, $kind:expr, $least:expr, $most:expr) => {
+        Child {
+            word: Word::$word,
+            kind: $kind,
+            least: $least,
+            most: $most,
+        }
+    };
+}
+
+const IN_NETPDL: [Child; 6] = [
+    child!(Variable, Kind::Variable, 0, None),
+    child!(LookupTable, Kind::Table, 0, None),
+    child!(ShowTemplate, Kind::ShowTemplate, 0, None),
+    child!(ShowSumStruct, Kind::SumStruct, 0, Some(1)),
+    child!(ShowSumTemplate, Kind::SumTemplate, 0, None),
+    child!(Protocol, Kind::Protocol, 0, None),
+];
+
+const IN_TABLE: [Child; 2] = [
+    child!(Key, Kind::TableKey, 1, Some(8)),
+    child!(Data, Kind::TableColumn, 0, Some(8)),
+];
+
+const IN_SUM_STRUCT: [Child; 1] = [child!(Section, Kind::Section, 1, Some(16))];
+
+const IN_SUM_TEMPLATE: [Child; 4] = [
+    child!(Section, Kind::SectionItem, 0, None),
+    child!(Text, Kind::TextItem, 0, None),
+    child!(ProtoField, Kind::ProtoFieldItem, 0, None),
+    child!(PacketHdr, Kind::PacketHdrItem, 0, None),
+];
+
+const IN_PROTOCOL: [Child; 3] = [
+    child!(ExecuteCode, Kind::ExecuteCode, 0, Some(1)),
+    child!(Format, Kind::Format, 0, Some(1)),
+    child!(Encapsulation, Kind::Encapsulation, 0, Some(1)),
+];
+
+const IN_EXECUTE_CODE: [Child; 2] = [
+    child!(Before, Kind::CodeList, 0, Some(1)),
+    child!(After, Kind::CodeList, 0, Some(1)),
+];
+
+const IN_FORMAT: [Child; 2] = [
+    child!(Fields, Kind::Fields, 0, Some(1)),
+    child!(Block, Kind::NamedBlock, 0, None),
+];
+
+const IN_FIELDS: [Child; 9] = [
+    child!(Field, Kind::Field, 0, None),
+    child!(Block, Kind::Block(ListKind::Fields), 0, None),
+    child!(IncludeBlk, Kind::IncludeBlock, 0, None),
+    child!(Loop, Kind::Loop, 0, None),
+    child!(LoopCtrl, Kind::LoopCtrl(ListKind::Fields), 0, None),
+    child!(Switch, Kind::Switch(ListKind::Fields), 0, None),
+    child!(If, Kind::If(ListKind::Fields), 0, None),
+    child!(AssignVariable, Kind::Assign, 0, None),
+    child!(UpdateLookupTable, Kind::Update, 0, None),
+];
+
+const IN_LOOPED: [Child; 9] = [
+    child!(Field, Kind::Field, 0, None),
+    child!(Block, Kind::Block(ListKind::Looped), 0, None),
+    child!(IncludeBlk, Kind::IncludeBlock, 0, None),
+    child!(Loop, Kind::Loop, 0, None),
+    child!(LoopCtrl, Kind::LoopCtrl(ListKind::Looped), 0, None),
+    child!(Switch, Kind::Switch(ListKind::Looped), 0, None),
+    child!(If, Kind::If(ListKind::Looped), 0, None),
+    child!(AssignVariable, Kind::Assign, 0, None),
+    child!(UpdateLookupTable, Kind::Update, 0, None),
+];
+
+const IN_CODE: [Child; 4] = [
+    child!(Switch, Kind::Switch(ListKind::Code), 0, None),
+    child!(If, Kind::If(ListKind::Code), 0, None),
+    child!(AssignVariable, Kind::Assign, 0, None),
+    child!(UpdateLookupTable, Kind::Update, 0, None),
+];
+
+const IN_ENCAP: [Child; 3] = [
+    child!(Switch, Kind::Switch(ListKind::Encap), 0, None),
+    child!(If, Kind::If(ListKind::Encap), 0, None),
+    child!(NextProto, Kind::NextProto, 0, None),
+];
+
+const IN_FIELDS_SWITCH: [Child; 2] = [
+    child!(Case, Kind::Case(ListKind::Fields), 0, None),
+    child!(Default, Kind::Branch(ListKind::Fields), 0, Some(1)),
+];
+
+const IN_LOOPED_SWITCH: [Child; 2] = [
+    child!(Case, Kind::Case(ListKind::Looped), 0, None),
+    child!(Default, Kind::Branch(ListKind::Looped), 0, Some(1)),
+];
+
+const IN_CODE_SWITCH: [Child; 2] = [
+    child!(Case, Kind::Case(ListKind::Code), 0, None),
+    child!(Default, Kind::Branch(ListKind::Code), 0, Some(1)),
+];
+
+const IN_ENCAP_SWITCH: [Child; 2] = [
+    child!(Case, Kind::Case(ListKind::Encap), 0, None),
+    child!(Default, Kind::Branch(ListKind::Encap), 0, Some(1)),
+];
+
+const IN_FIELDS_IF: [Child; 2] = [
+    child!(IfTrue, Kind::Branch(ListKind::Fields), 1, Some(1)),
+    child!(IfFalse, Kind::Branch(ListKind::Fields), 0, Some(1)),
+];
+
+const IN_LOOPED_IF: [Child; 2] = [
+    child!(IfTrue, Kind::Branch(ListKind::Looped), 1, Some(1)),
+    child!(IfFalse, Kind::Branch(ListKind::Looped), 0, Some(1)),
+];
+
+const IN_CODE_IF: [Child; 2] = [
+    child!(IfTrue, Kind::Branch(ListKind::Code), 1, Some(1)),
+    child!(IfFalse, Kind::Branch(ListKind::Code), 0, Some(1)),
+];
+
+const IN_ENCAP_IF: [Child; 2] = [
+    child!(IfTrue, Kind::Branch(ListKind::Encap), 1, Some(1)),
+    child!(IfFalse, Kind::Branch(ListKind::Encap), 0, Some(1)),
+];
+
+const IN_UPDATE: [Child; 2] = [
+    child!(Key, Kind::UpdateKey, 0, None),
+    child!(Data, Kind::UpdateValue, 0, None),
+];
+
+/// The elements that stand in a list of this kind.
+#[tactic(auto, unfolding(crate::specs::Rules::in_list))]
+fn in_list(kind: ListKind) -> &'static [Child]
+    ensures { result.now ≡ Rules.in_list kind }
+{
+    match kind {
+        ListKind::Fields => &IN_FIELDS,
+        ListKind::Looped => &IN_LOOPED,
+        ListKind::Code => &IN_CODE,
+        ListKind::Encap => &IN_ENCAP,
+    }
+}
+
+#[tactic(auto, unfolding(crate::specs::Rules::in_switch))]
+fn in_switch(kind: ListKind) -> &'static [Child]
+    ensures { result.now ≡ Rules.in_switch kind }
+{
+    match kind {
+        ListKind::Fields => &IN_FIELDS_SWITCH,
+        ListKind::Looped => &IN_LOOPED_SWITCH,
+        ListKind::Code => &IN_CODE_SWITCH,
+        ListKind::Encap => &IN_ENCAP_SWITCH,
+    }
+}
+
+#[tactic(auto, unfolding(crate::specs::Rules::in_if))]
+fn in_if(kind: ListKind) -> &'static [Child]
+    ensures { result.now ≡ Rules.in_if kind }
+{
+    match kind {
+        ListKind::Fields => &IN_FIELDS_IF,
+        ListKind::Looped => &IN_LOOPED_IF,
+        ListKind::Code => &IN_CODE_IF,
+        ListKind::Encap => &IN_ENCAP_IF,
+    }
+}
+
+/// What may stand in an element of this kind, in the order that it has where the order counts.
+#[tactic(auto, unfolding(crate::specs::Rules::children))]
+pub fn children(kind: Kind) -> &'static [Child]
+    ensures { result.now ≡ Rules.children kind }
+{
+    match kind {
+        Kind::Netpdl => &IN_NETPDL,
+        Kind::Variable => &[],
+        Kind::Table => &IN_TABLE,
+        Kind::TableKey => &[],
+        Kind::TableColumn => &[],
+        Kind::ShowTemplate => &[],
+        Kind::SumStruct => &IN_SUM_STRUCT,
+        Kind::Section => &[],
+        Kind::SumTemplate => &IN_SUM_TEMPLATE,
+        Kind::SectionItem => &[],
+        Kind::TextItem => &[],
+        Kind::ProtoFieldItem => &[],
+        Kind::PacketHdrItem => &[],
+        Kind::Protocol => &IN_PROTOCOL,
+        Kind::ExecuteCode => &IN_EXECUTE_CODE,
+        Kind::CodeList => &IN_CODE,
+        Kind::Format => &IN_FORMAT,
+        Kind::Fields => &IN_FIELDS,
+        Kind::NamedBlock => &IN_FIELDS,
+        Kind::Block(list) => in_list(list),
+        Kind::IncludeBlock => &[],
+        Kind::Field => &[],
+        Kind::Loop => &IN_LOOPED,
+        Kind::LoopCtrl(_) => &[],
+        Kind::Switch(list) => in_switch(list),
+        Kind::Case(list) => in_list(list),
+        Kind::Branch(list) => in_list(list),
+        Kind::If(list) => in_if(list),
+        Kind::Assign => &[],
+        Kind::Update => &IN_UPDATE,
+        Kind::UpdateKey => &[],
+        Kind::UpdateValue => &[],
+        Kind::Encapsulation => &IN_ENCAP,
+        Kind::NextProto => &[],
+    }
+}
+
+/// Whether what stands in an element of this kind has the order of its rows.
+#[tactic(auto, unfolding(crate::specs::Rules::is_ordered))]
+pub fn is_ordered(kind: Kind) -> bool
+    ensures { result ≡ Rules.is_ordered kind }
+{
+    matches!(
+        kind,
+        Kind::Table | Kind::Format | Kind::Switch(_) | Kind::If(_) | Kind::Update
+    )
+}

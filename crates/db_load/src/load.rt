@@ -1,0 +1,30 @@
+ghost use Rattle.db_load.specs.Answer.{Answers, Judges};
+
+use crate::protocol::database_of;
+use crate::walk::refusal;
+use crate::{DbFail, Fault};
+use db_model::Database;
+use db_text::{Node, TextFail, read_elements};
+use std::alloc::Global;
+
+/// The database that a top element means, or the fault that is answered.
+fn judged(alloc: Global, node: &Node) -> Result<Database, DbFail>
+    ensures { Judges node.now result }
+{
+    match refusal(alloc, node)? {
+        Some(Fault { line, code }) => Err(DbFail::Fault { line, code }),
+        None => Ok(database_of(alloc, node)?),
+    }
+}
+
+/// The database that a text is; else the line and the code of the fault that is answered: that of the text, or
+/// of all faults of shape the one of the least line, and there of the least code.
+pub fn load_database(alloc: Global, text: &[u8]) -> Result<Database, DbFail>
+    ensures { Answers text.now result }
+{
+    match read_elements(alloc, text) {
+        Ok(node) => judged(alloc, &node),
+        Err(TextFail::Fault { line, code }) => Err(DbFail::Fault { line, code }),
+        Err(TextFail::NoMemory) => Err(DbFail::NoMemory),
+    }
+}
