@@ -3,7 +3,7 @@ use Rattle.std.proofs.Common.{◌≡◌, Bool, true, false, ◌&&◌, ℕ, suc, 
 use Rattle.std.specs.List.{prefix_len, list_all}
 use Rattle.std.proofs.lemmas.Bool.{false≢true}
 use Rattle.std.proofs.lemmas.List.{take-append-drop}
-use Rattle.npd_top.specs.Reading.{◌>>=◌, after, when}
+use Rattle.npd_top.specs.Reading.{◌>>=◌, past_literal, guarded}
 use Rattle.npd_top.proofs.Literals.{after-sound, none_is_some}
 
 -- a bind that gives a value had one
@@ -23,7 +23,7 @@ along P value other past rest e holds =
     let parts = parts_are value other past rest e in
     rw (← parts.0, ← parts.1) holds
 
-pub when_is : {A : Type 0} (b : Bool) (value other : A) → when b value ≡ Some other → (b ≡ true) × (value ≡ other)
+pub when_is : {A : Type 0} (b : Bool) (value other : A) → guarded b value ≡ Some other → (b ≡ true) × (value ≡ other)
 when_is true value other e = (refl, cc)
 when_is false value other e = absurd (none_is_some e)
 
@@ -39,6 +39,6 @@ run_length p (x ∷ xs) stop rest all ends =
     rw both.0 (one-add (prefix_len p (xs ++ stop ∷ rest)) ∙ ap suc (run_length p xs stop rest both.1 ends))
 
 -- a run and the quote behind it
-pub run_and_quote : (count : ℕ) (text rest : List ℕ) → after (34 ∷ []) (drop count text) ≡ Some rest → text ≡ take count text ++ 34 ∷ rest
+pub run_and_quote : (count : ℕ) (text rest : List ℕ) → past_literal (34 ∷ []) (drop count text) ≡ Some rest → text ≡ take count text ++ 34 ∷ rest
 run_and_quote count text rest e =
     sym (take-append-drop count text) ∙ ap (λ x. take count text ++ x) (after-sound (34 ∷ []) (drop count text) rest e)

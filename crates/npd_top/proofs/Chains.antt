@@ -4,24 +4,24 @@ use Rattle.std.specs.Prelude.{slice_get}
 use Rattle.db_model.specs.declared.tree.Reason.TheVariants.{Protocols}
 use Rattle.db_model.specs.declared.tree.Node.TheVariants.{Note}
 use Rattle.db_model.specs.declared.tree.Proto.{Proto}
-use Rattle.npd_top.specs.declared.decode.Went.{Went}
+use Rattle.npd_top.specs.declared.decode.FieldsEnd.{FieldsEnd}
 use Rattle.npd_top.specs.declared.decode.Chain.{Chain}
 use Rattle.npd_top.specs.declared.simple.SimpleProtocol.{SimpleProtocol}
-use Rattle.npd_top.specs.Decoding.{chain, body, chosen, next_of, ends, goes_on, proto_of, with_protos}
+use Rattle.npd_top.specs.Decoding.{chain, body, next_number, next_of, ends, goes_on, proto_of, with_protos}
 
 -- no next protocol is chosen
-pub chain_ends : (more : ℕ) (db : List SimpleProtocol) (number at room : ℕ) (bytes : List ℕ) (went : Went) → went ≡ body db number at room bytes → chosen db (next_of (slice_get db number)) (length bytes) went ≡ None → chain more db number at room bytes ≡ ends (proto_of number at went.nodes went.at) went.at
+pub chain_ends : (more : ℕ) (db : List SimpleProtocol) (number at room : ℕ) (bytes : List ℕ) (went : FieldsEnd) → went ≡ body db number at room bytes → next_number db (next_of (slice_get db number)) (length bytes) went ≡ None → chain more db number at room bytes ≡ ends (proto_of number at went.nodes went.at) went.at
 unfolding chain
 chain_ends zero db number at room bytes went is none = rw (← is, none) refl
 chain_ends (suc more) db number at room bytes went is none = rw (← is, none) refl
 
 -- one is chosen, and no further one may be entered
-pub chain_stops : (db : List SimpleProtocol) (number at room : ℕ) (bytes : List ℕ) (went : Went) (next : ℕ) → went ≡ body db number at room bytes → chosen db (next_of (slice_get db number)) (length bytes) went ≡ Some next → chain 0 db number at room bytes ≡ ends (proto_of number at (went.nodes ++ Note Protocols went.at ∷ []) went.at) went.at
+pub chain_stops : (db : List SimpleProtocol) (number at room : ℕ) (bytes : List ℕ) (went : FieldsEnd) (next : ℕ) → went ≡ body db number at room bytes → next_number db (next_of (slice_get db number)) (length bytes) went ≡ Some next → chain 0 db number at room bytes ≡ ends (proto_of number at (went.nodes ++ Note Protocols went.at ∷ []) went.at) went.at
 unfolding chain
 chain_stops db number at room bytes went next is some = rw (← is, some) refl
 
 -- the chosen one is entered
-pub chain_goes : (more : ℕ) (db : List SimpleProtocol) (number at room : ℕ) (bytes : List ℕ) (went : Went) (next : ℕ) → went ≡ body db number at room bytes → chosen db (next_of (slice_get db number)) (length bytes) went ≡ Some next → chain (suc more) db number at room bytes ≡ goes_on (proto_of number at went.nodes went.at) (chain more db next went.at went.room bytes)
+pub chain_goes : (more : ℕ) (db : List SimpleProtocol) (number at room : ℕ) (bytes : List ℕ) (went : FieldsEnd) (next : ℕ) → went ≡ body db number at room bytes → next_number db (next_of (slice_get db number)) (length bytes) went ≡ Some next → chain (suc more) db number at room bytes ≡ goes_on (proto_of number at went.nodes went.at) (chain more db next went.at went.room bytes)
 unfolding chain
 chain_goes more db number at room bytes went next is some = rw (← is, some) refl
 

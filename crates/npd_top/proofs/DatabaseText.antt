@@ -6,7 +6,7 @@ use Rattle.std.proofs.lemmas.Bool.{false≢true}
 use Rattle.std.proofs.lemmas.Bool.Decides.{nat_tests}
 use Rattle.npd_top.specs.declared.simple.SimpleProtocol.{SimpleProtocol}
 use Rattle.npd_top.specs.SimpleText.{protocol_opening, protocols_text, database_text, is_consistent, IsProtocol, IsSimple}
-use Rattle.npd_top.specs.Reading.{after, is_nil, protocols_in, database_in, simple_in}
+use Rattle.npd_top.specs.Reading.{past_literal, is_nil, protocols_in, database_in, simple_in}
 use Rattle.npd_top.proofs.Literals.{after-append, after-sound, none_is_some}
 use Rattle.npd_top.proofs.Binds.{bound, when_is, and_is}
 use Rattle.npd_top.proofs.ProtocolText.{protocols_in-sound, protocols_in-complete}
@@ -29,23 +29,23 @@ database_joined lines text behind ended rest one two three four = one ∙ rw (tw
 database_in-sound : (text : List ℕ) (db : List SimpleProtocol) → database_in text ≡ Some db → (text ≡ database_text db) × AllByRecursion IsProtocol db
 unfolding database_in
 database_in-sound text db e =
-    let lines = bound (after database_opening text) _ db e in
+    let lines = bound (past_literal database_opening text) _ db e in
     let protocols = bound (protocols_in lines.0) _ db lines.2 in
-    let ended = bound (after database_end protocols.0.1) _ db protocols.2 in
+    let ended = bound (past_literal database_end protocols.0.1) _ db protocols.2 in
     let whole = when_is (is_nil ended.0) protocols.0.0 db ended.2 in
     let spelled = protocols_in-sound lines.0 protocols.0.0 protocols.0.1 protocols.1 in
     let joined = database_joined (protocols_text protocols.0.0) text lines.0 protocols.0.1 ended.0 (after-sound database_opening text lines.0 lines.1) spelled.0 (after-sound database_end protocols.0.1 ended.0 ended.1) (nil_is ended.0 whole.0) in
     subst (λ read. (text ≡ database_text read) × AllByRecursion IsProtocol read) whole.1 (joined, spelled.1)
 
-protocols_stop : after protocol_opening database_end ≡ None
-unfolding after
+protocols_stop : past_literal protocol_opening database_end ≡ None
+unfolding past_literal
 protocols_stop = refl
 
 database_in-complete : (db : List SimpleProtocol) → AllByRecursion IsProtocol db → database_in (database_text db) ≡ Some db
 unfolding database_in
 database_in-complete db all =
     let lines = protocols_text db ++ database_end in
-    let ended : after database_end database_end ≡ Some [] = after-append database_end [] in
+    let ended : past_literal database_end database_end ≡ Some [] = after-append database_end [] in
     rw (after-append database_opening lines, protocols_in-complete db database_end all protocols_stop, ended) refl
 
 -- what is read is simple

@@ -4,7 +4,7 @@ use Rattle.std.specs.Prelude.{codes, decimal}
 use Rattle.std.specs.List.{AllByRecursion}
 use Rattle.npd_top.specs.declared.simple.SimpleField.{SimpleField}
 use Rattle.npd_top.specs.SimpleText.{field_opening, field_tail, fields_text, IsField}
-use Rattle.npd_top.specs.Reading.{after, with_front, name_in, size_in, field_in, fields_in}
+use Rattle.npd_top.specs.Reading.{past_literal, with_front, name_in, size_in, field_in, fields_in}
 use Rattle.npd_top.proofs.Literals.{after-append, after-sound}
 use Rattle.npd_top.proofs.Binds.{bound, along}
 use Rattle.npd_top.proofs.NameText.{name_in-complete, name_in-sound}
@@ -24,9 +24,9 @@ field_in-sound : (text : List ℕ) (field : SimpleField) (rest : List ℕ) → f
 unfolding field_in
 field_in-sound text field rest e =
     let name = bound (name_in text) _ (field, rest) e in
-    let sized = bound (after typed name.0.1) _ (field, rest) name.2 in
+    let sized = bound (past_literal typed name.0.1) _ (field, rest) name.2 in
     let size = bound (size_in sized.0) _ (field, rest) sized.2 in
-    let ended = bound (after (codes "/>") size.0.1) _ (field, rest) size.2 in
+    let ended = bound (past_literal (codes "/>") size.0.1) _ (field, rest) size.2 in
     let named = name_in-sound text name.0.0 name.0.1 name.1 in
     let whole = size_in-sound sized.0 size.0.0 size.0.1 size.1 in
     along (λ read past. (text ≡ field_tail read ++ past) × IsField read) (record { name = name.0.0; size = size.0.0 }) field ended.0 rest ended.2 (
@@ -57,22 +57,22 @@ pub fields_in-sound : (text : List ℕ) (fields : List SimpleField) (rest : List
 unfolding fields_in
 fields_in-sound = items_in-sound SimpleField field_opening field_in IsField field_tail fields_text field_spelling
 
-pub fields_in-complete : (fields : List SimpleField) (rest : List ℕ) → AllByRecursion IsField fields → after field_opening rest ≡ None → fields_in (fields_text fields ++ rest) ≡ Some (fields, rest)
+pub fields_in-complete : (fields : List SimpleField) (rest : List ℕ) → AllByRecursion IsField fields → past_literal field_opening rest ≡ None → fields_in (fields_text fields ++ rest) ≡ Some (fields, rest)
 unfolding fields_in
 fields_in-complete = items_in-complete SimpleField field_opening field_in IsField field_tail fields_text field_spelling
 
 -- a loop over fields
-pub fields-more : (front : List SimpleField) (text behind : List ℕ) (first : SimpleField) (rest : List ℕ) → after field_opening text ≡ Some behind → field_in behind ≡ Some (first, rest) → with_front (front ++ first ∷ []) (fields_in rest) ≡ with_front front (fields_in text)
+pub fields-more : (front : List SimpleField) (text behind : List ℕ) (first : SimpleField) (rest : List ℕ) → past_literal field_opening text ≡ Some behind → field_in behind ≡ Some (first, rest) → with_front (front ++ first ∷ []) (fields_in rest) ≡ with_front front (fields_in text)
 unfolding fields_in
 fields-more = front-more SimpleField field_opening field_in IsField field_tail fields_text field_spelling
 
-pub fields-end : (front : List SimpleField) (text : List ℕ) → after field_opening text ≡ None → with_front front (fields_in text) ≡ Some (front, text)
+pub fields-end : (front : List SimpleField) (text : List ℕ) → past_literal field_opening text ≡ None → with_front front (fields_in text) ≡ Some (front, text)
 unfolding fields_in
 fields-end = front-end SimpleField field_opening field_in IsField field_tail fields_text field_spelling
 
-pub fields-refused : (front : List SimpleField) (text behind : List ℕ) → after field_opening text ≡ Some behind → field_in behind ≡ None → with_front front (fields_in text) ≡ None
+pub fields-refused : (front : List SimpleField) (text behind : List ℕ) → past_literal field_opening text ≡ Some behind → field_in behind ≡ None → with_front front (fields_in text) ≡ None
 unfolding fields_in
 fields-refused = front-refused SimpleField field_opening field_in IsField field_tail fields_text field_spelling
 
-pub field-falls : (text behind : List ℕ) (first : SimpleField) (rest : List ℕ) → after field_opening text ≡ Some behind → field_in behind ≡ Some (first, rest) → length rest < length text
+pub field-falls : (text behind : List ℕ) (first : SimpleField) (rest : List ℕ) → past_literal field_opening text ≡ Some behind → field_in behind ≡ Some (first, rest) → length rest < length text
 field-falls = item_falls SimpleField field_opening field_in IsField field_tail fields_text field_spelling

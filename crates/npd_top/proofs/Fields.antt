@@ -3,7 +3,7 @@ use Rattle.std.proofs.Common.{◌≡◌, Bool, ℕ, suc, ◌+◌, ◌-◌, ◌<�
 use Rattle.db_model.specs.declared.tree.Reason.{Reason}
 use Rattle.db_model.specs.declared.tree.Node.{Node}
 use Rattle.db_model.specs.declared.tree.Node.TheVariants.{Field, Note}
-use Rattle.npd_top.specs.declared.decode.Went.{Went}
+use Rattle.npd_top.specs.declared.decode.FieldsEnd.{FieldsEnd}
 use Rattle.npd_top.specs.declared.simple.SimpleField.{SimpleField}
 use Rattle.npd_top.specs.Decoding.{fields_from, refusal, with_nodes}
 use Rattle.std.proofs.lemmas.Bool.Decides.{nat_tests}
@@ -27,10 +27,10 @@ field_goes nodes fields bytes number at room i field within is fits =
     rw (from_here fields i field within is, fits, append_assoc) refl
 
 -- behind the last field
-pub fields_end : (went : Went) (fields : List SimpleField) (bytes : List ℕ) (number i : ℕ) → length fields ≤ i → went.is_stopped ≡ false → with_nodes went.nodes (fields_from number went.at went.room (drop i fields) bytes) ≡ went
+pub fields_end : (went : FieldsEnd) (fields : List SimpleField) (bytes : List ℕ) (number i : ℕ) → length fields ≤ i → went.is_stopped ≡ false → with_nodes went.nodes (fields_from number went.at went.room (drop i fields) bytes) ≡ went
 unfolding fields_from
 fields_end went fields bytes number i over goes_on =
-    let as_stopped : Bool → Went = λ b. record { nodes = went.nodes; at = went.at; room = went.room; is_stopped = b } in
+    let as_stopped : Bool → FieldsEnd = λ b. record { nodes = went.nodes; at = went.at; room = went.room; is_stopped = b } in
     rw (drop_all i fields over, append-nil) (ap as_stopped (sym goes_on))
 
 -- a field that can be added ends within the packet, and has room

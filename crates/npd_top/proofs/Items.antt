@@ -2,7 +2,7 @@
 -- is read.
 use Rattle.std.proofs.Common.{◌≡◌, ℕ, zero, suc, ◌<◌, ◌≤◌, List, [], ◌∷◌, ◌++◌, length, Option, Some, None, refl, sym, ap, ◌∙◌, append_assoc, append-nil, length-append, arith}
 use Rattle.std.specs.List.{AllByRecursion}
-use Rattle.npd_top.specs.Reading.{after, with_first, then_more, items_step, items_within, items_in, with_front}
+use Rattle.npd_top.specs.Reading.{past_literal, with_first, then_more, items_step, items_within, items_in, with_front}
 use Rattle.npd_top.proofs.Literals.{after-append, after-sound, none_is_some}
 use Rattle.npd_top.proofs.Binds.{parts_are}
 
@@ -15,7 +15,7 @@ pub record IsSpelling (A : Type 0) (opening : List ℕ) (item : List ℕ → Opt
   pub complete : (value : A) (rest : List ℕ) → P value → item (tail value ++ rest) ≡ Some (value, rest)
 
 -- what stands behind an opening is shorter
-behind_is_shorter : (opening text behind : List ℕ) → 0 < length opening → after opening text ≡ Some behind → length behind < length text
+behind_is_shorter : (opening text behind : List ℕ) → 0 < length opening → past_literal opening text ≡ Some behind → length behind < length text
 behind_is_shorter opening text behind some e =
     omega (arith, ap length (after-sound opening text behind e), length-append opening behind)
 
@@ -38,20 +38,20 @@ module _ (A : Type 0) (opening : List ℕ) (item : List ℕ → Option (A × Lis
       omega (arith, ap length (is.sound text value rest e).0, length-append (tail value) rest)
 
   -- behind its opening, less
-  pub item_falls : (text behind : List ℕ) (value : A) (rest : List ℕ) → after opening text ≡ Some behind → item behind ≡ Some (value, rest) → length rest < length text
+  pub item_falls : (text behind : List ℕ) (value : A) (rest : List ℕ) → past_literal opening text ≡ Some behind → item behind ≡ Some (value, rest) → length rest < length text
   item_falls text behind value rest opened e =
       omega (arith, behind_is_shorter opening text behind is.opens opened, item_shrinks behind value rest e)
 
   -- readers of what follows that agree on each shorter text agree on a step
-  step_same : (more other : List ℕ → Option (List A × List ℕ)) (text : List ℕ) → ((rest : List ℕ) → length rest < length text → more rest ≡ other rest) → items_step A opening item more text (after opening text) ≡ items_step A opening item other text (after opening text)
-  step_same more other text agree = at_opening (after opening text) refl
+  step_same : (more other : List ℕ → Option (List A × List ℕ)) (text : List ℕ) → ((rest : List ℕ) → length rest < length text → more rest ≡ other rest) → items_step A opening item more text (past_literal opening text) ≡ items_step A opening item other text (past_literal opening text)
+  step_same more other text agree = at_opening (past_literal opening text) refl
     where
-      at_item : (behind : List ℕ) → after opening text ≡ Some behind → (read : Option (A × List ℕ)) → item behind ≡ read → then_more A opening item more read ≡ then_more A opening item other read
+      at_item : (behind : List ℕ) → past_literal opening text ≡ Some behind → (read : Option (A × List ℕ)) → item behind ≡ read → then_more A opening item more read ≡ then_more A opening item other read
       at_item behind opened None e = refl
       at_item behind opened (Some (first, rest)) e =
           ap (with_first A opening item first) (agree rest (item_falls text behind first rest opened e))
 
-      at_opening : (behind : Option (List ℕ)) → after opening text ≡ behind → items_step A opening item more text behind ≡ items_step A opening item other text behind
+      at_opening : (behind : Option (List ℕ)) → past_literal opening text ≡ behind → items_step A opening item more text behind ≡ items_step A opening item other text behind
       at_opening None opened = refl
       at_opening (Some behind) opened = at_item behind opened (item behind) refl
 
@@ -64,25 +64,25 @@ module _ (A : Type 0) (opening : List ℕ) (item : List ℕ → Option (A × Lis
       step_same (items_within A opening item n) (items_within A opening item m) text (λ rest short. enough n m rest (omega arith) (omega arith))
 
   -- the law of the reading
-  pub items_in-step : (text : List ℕ) → items_in A opening item text ≡ items_step A opening item (items_in A opening item) text (after opening text)
+  pub items_in-step : (text : List ℕ) → items_in A opening item text ≡ items_step A opening item (items_in A opening item) text (past_literal opening text)
   unfolding items_in items_within
   items_in-step text =
       step_same (items_within A opening item (length text)) (items_in A opening item) text (λ rest short. enough (length text) (suc (length rest)) rest short (omega arith))
 
   -- where no opening stands, nothing is read
-  pub items_in-end : (text : List ℕ) → after opening text ≡ None → items_in A opening item text ≡ Some ([], text)
+  pub items_in-end : (text : List ℕ) → past_literal opening text ≡ None → items_in A opening item text ≡ Some ([], text)
   items_in-end text stop = items_in-step text ∙ rw stop refl
 
   -- where an opening stands without an item, the text is refused
-  pub items_in-refused : (text behind : List ℕ) → after opening text ≡ Some behind → item behind ≡ None → items_in A opening item text ≡ None
+  pub items_in-refused : (text behind : List ℕ) → past_literal opening text ≡ Some behind → item behind ≡ None → items_in A opening item text ≡ None
   items_in-refused text behind opened none = items_in-step text ∙ rw (opened, none) refl
 
   -- else the item comes first
-  pub items_in-more : (text behind : List ℕ) (first : A) (rest : List ℕ) → after opening text ≡ Some behind → item behind ≡ Some (first, rest) → items_in A opening item text ≡ with_first A opening item first (items_in A opening item rest)
+  pub items_in-more : (text behind : List ℕ) (first : A) (rest : List ℕ) → past_literal opening text ≡ Some behind → item behind ≡ Some (first, rest) → items_in A opening item text ≡ with_first A opening item first (items_in A opening item rest)
   items_in-more text behind first rest opened e = items_in-step text ∙ rw (opened, e) refl
 
   -- a loop over the items, from those in front on
-  pub front-more : (front : List A) (text behind : List ℕ) (first : A) (rest : List ℕ) → after opening text ≡ Some behind → item behind ≡ Some (first, rest) → with_front (front ++ first ∷ []) (items_in A opening item rest) ≡ with_front front (items_in A opening item text)
+  pub front-more : (front : List A) (text behind : List ℕ) (first : A) (rest : List ℕ) → past_literal opening text ≡ Some behind → item behind ≡ Some (first, rest) → with_front (front ++ first ∷ []) (items_in A opening item rest) ≡ with_front front (items_in A opening item text)
   front-more front text behind first rest opened e =
       moved (items_in A opening item rest) ∙ ap (with_front front) (sym (items_in-more text behind first rest opened e))
     where
@@ -90,17 +90,17 @@ module _ (A : Type 0) (opening : List ℕ) (item : List ℕ → Option (A × Lis
       moved None = refl
       moved (Some (others, past)) = ap (λ items. Some (items, past)) (append_assoc front (first ∷ []) others)
 
-  pub front-end : (front : List A) (text : List ℕ) → after opening text ≡ None → with_front front (items_in A opening item text) ≡ Some (front, text)
+  pub front-end : (front : List A) (text : List ℕ) → past_literal opening text ≡ None → with_front front (items_in A opening item text) ≡ Some (front, text)
   front-end front text stop = rw (items_in-end text stop, append-nil front) refl
 
-  pub front-refused : (front : List A) (text behind : List ℕ) → after opening text ≡ Some behind → item behind ≡ None → with_front front (items_in A opening item text) ≡ None
+  pub front-refused : (front : List A) (text behind : List ℕ) → past_literal opening text ≡ Some behind → item behind ≡ None → with_front front (items_in A opening item text) ≡ None
   front-refused front text behind opened none = rw (items_in-refused text behind opened none) refl
 
   -- what is read is spelled so
-  step_sound : (more : List ℕ → Option (List A × List ℕ)) → ((past : List ℕ) (others : List A) (rest : List ℕ) → more past ≡ Some (others, rest) → (past ≡ spelled others ++ rest) × AllByRecursion P others) → (text : List ℕ) (items : List A) (rest : List ℕ) → items_step A opening item more text (after opening text) ≡ Some (items, rest) → (text ≡ spelled items ++ rest) × AllByRecursion P items
-  step_sound more later text items rest e = at_opening (after opening text) refl e
+  step_sound : (more : List ℕ → Option (List A × List ℕ)) → ((past : List ℕ) (others : List A) (rest : List ℕ) → more past ≡ Some (others, rest) → (past ≡ spelled others ++ rest) × AllByRecursion P others) → (text : List ℕ) (items : List A) (rest : List ℕ) → items_step A opening item more text (past_literal opening text) ≡ Some (items, rest) → (text ≡ spelled items ++ rest) × AllByRecursion P items
+  step_sound more later text items rest e = at_opening (past_literal opening text) refl e
     where
-      at_item : (behind : List ℕ) → after opening text ≡ Some behind → (read : Option (A × List ℕ)) → item behind ≡ read → then_more A opening item more read ≡ Some (items, rest) → (text ≡ spelled items ++ rest) × AllByRecursion P items
+      at_item : (behind : List ℕ) → past_literal opening text ≡ Some behind → (read : Option (A × List ℕ)) → item behind ≡ read → then_more A opening item more read ≡ Some (items, rest) → (text ≡ spelled items ++ rest) × AllByRecursion P items
       at_item behind opened None one e = absurd (none_is_some e)
       at_item behind opened (Some (first, past)) one e =
           let parts = with_first_is A opening item first (more past) items rest e in
@@ -109,7 +109,7 @@ module _ (A : Type 0) (opening : List ℕ) (item : List ℕ → Option (A × Lis
           rw (← parts.1, is.more first parts.0)
           (joined opening (tail first) (spelled parts.0) text behind past rest (after-sound opening text behind opened) here.0 behind_it.0, (here.1, behind_it.1))
 
-      at_opening : (behind : Option (List ℕ)) → after opening text ≡ behind → items_step A opening item more text behind ≡ Some (items, rest) → (text ≡ spelled items ++ rest) × AllByRecursion P items
+      at_opening : (behind : Option (List ℕ)) → past_literal opening text ≡ behind → items_step A opening item more text behind ≡ Some (items, rest) → (text ≡ spelled items ++ rest) × AllByRecursion P items
       at_opening None opened e =
           let parts = parts_are [] items text rest e in
           rw (← parts.0, is.none) (parts.1, tt)
@@ -126,7 +126,7 @@ module _ (A : Type 0) (opening : List ℕ) (item : List ℕ → Option (A × Lis
   items_in-sound text items rest e = within-sound (suc (length text)) text items rest e
 
   -- what is spelled so is read, up to where no opening stands
-  pub items_in-complete : (items : List A) (rest : List ℕ) → AllByRecursion P items → after opening rest ≡ None → items_in A opening item (spelled items ++ rest) ≡ Some (items, rest)
+  pub items_in-complete : (items : List A) (rest : List ℕ) → AllByRecursion P items → past_literal opening rest ≡ None → items_in A opening item (spelled items ++ rest) ≡ Some (items, rest)
   items_in-complete [] rest all stop = rw is.none (items_in-end rest stop)
   items_in-complete (first ∷ others) rest all stop =
       let past = spelled others ++ rest in

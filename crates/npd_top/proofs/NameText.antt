@@ -5,7 +5,7 @@ use Rattle.std.proofs.Math.Seq.{take-append_seam, drop-append_seam}
 use Rattle.std.proofs.lemmas.Bool.{false≢true}
 use Rattle.std.proofs.lemmas.Bool.Decides.{nat_tests}
 use Rattle.db_model.specs.Name.{begins_name, continues_name, is_word, is_name, is_reserved}
-use Rattle.npd_top.specs.Reading.{after, when, name_in}
+use Rattle.npd_top.specs.Reading.{past_literal, guarded, name_in}
 use Rattle.npd_top.proofs.Literals.{after-append}
 use Rattle.npd_top.proofs.Binds.{bound, when_is, and_is, run_length, run_and_quote}
 
@@ -36,7 +36,7 @@ pub name_in-sound : (text name rest : List ℕ) → name_in text ≡ Some (name,
 unfolding name_in
 name_in-sound text name rest e =
     let count = prefix_len continues_name text in
-    let quoted = bound (after (34 ∷ []) (drop count text)) (λ behind. when (is_name (take count text)) (take count text, behind)) (name, rest) e in
+    let quoted = bound (past_literal (34 ∷ []) (drop count text)) (λ behind. guarded (is_name (take count text)) (take count text, behind)) (name, rest) e in
     let named = when_is (is_name (take count text)) (take count text, quoted.0) (name, rest) quoted.2 in
     let is : take count text ≡ name = ap (λ (read : List ℕ × List ℕ). read.0) named.1 in
     let behind : quoted.0 ≡ rest = ap (λ (read : List ℕ × List ℕ). read.1) named.1 in

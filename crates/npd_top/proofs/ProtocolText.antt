@@ -5,7 +5,7 @@ use Rattle.std.specs.List.{AllByRecursion}
 use Rattle.db_model.specs.Name.{is_name}
 use Rattle.npd_top.specs.declared.simple.SimpleProtocol.{SimpleProtocol}
 use Rattle.npd_top.specs.SimpleText.{format_text, encapsulation_text, protocol_tail, protocol_opening, protocols_text, IsProtocol}
-use Rattle.npd_top.specs.Reading.{after, with_front, name_in, format_in, encapsulation_behind, encapsulation_in, protocol_in, protocols_in}
+use Rattle.npd_top.specs.Reading.{past_literal, with_front, name_in, format_in, encapsulation_behind, encapsulation_in, protocol_in, protocols_in}
 use Rattle.npd_top.proofs.Literals.{after-append, after-sound}
 use Rattle.npd_top.proofs.Binds.{bound, along}
 use Rattle.npd_top.proofs.NameText.{name_in-complete, name_in-sound}
@@ -30,28 +30,28 @@ next_joined opening name quote_and_end text behind ended rest one two three = rw
 
 encapsulation_in-sound : (text : List ℕ) (next : Option (List ℕ)) (rest : List ℕ) → encapsulation_in text ≡ Some (next, rest) → (text ≡ encapsulation_text next ++ rest) × IsNext next
 unfolding encapsulation_in
-encapsulation_in-sound text next rest e = at_opening (after encapsulation_opening text) refl e
+encapsulation_in-sound text next rest e = at_opening (past_literal encapsulation_opening text) refl e
   where
     Sound : Option (List ℕ) → List ℕ → Type 0
     Sound read past = (text ≡ encapsulation_text read ++ past) × IsNext read
 
-    at_opening : (behind : Option (List ℕ)) → after encapsulation_opening text ≡ behind → encapsulation_behind text behind ≡ Some (next, rest) → Sound next rest
+    at_opening : (behind : Option (List ℕ)) → past_literal encapsulation_opening text ≡ behind → encapsulation_behind text behind ≡ Some (next, rest) → Sound next rest
     at_opening None opened e = along Sound None next text rest e (refl, tt)
     at_opening (Some behind) opened e =
         let name = bound (name_in behind) _ (next, rest) e in
-        let ended = bound (after encapsulation_end name.0.1) _ (next, rest) name.2 in
+        let ended = bound (past_literal encapsulation_end name.0.1) _ (next, rest) name.2 in
         let named = name_in-sound behind name.0.0 name.0.1 name.1 in
         let closed = after-sound encapsulation_end name.0.1 ended.0 ended.1 in
         along Sound (Some name.0.0) next ended.0 rest ended.2
         (next_joined encapsulation_opening name.0.0 (34 ∷ encapsulation_end) text behind (34 ∷ name.0.1) ended.0 (after-sound encapsulation_opening text behind opened) named.0 (ap (λ past. 34 ∷ past) closed), named.1)
 
-encapsulation_in-complete : (next : Option (List ℕ)) (rest : List ℕ) → IsNext next → after encapsulation_opening rest ≡ None → encapsulation_in (encapsulation_text next ++ rest) ≡ Some (next, rest)
+encapsulation_in-complete : (next : Option (List ℕ)) (rest : List ℕ) → IsNext next → past_literal encapsulation_opening rest ≡ None → encapsulation_in (encapsulation_text next ++ rest) ≡ Some (next, rest)
 unfolding encapsulation_in
 encapsulation_in-complete None rest is stop = rw stop refl
 encapsulation_in-complete (Some name) rest is stop =
     let behind = name ++ 34 ∷ (encapsulation_end ++ rest) in
     let text = next_joined encapsulation_opening name (34 ∷ encapsulation_end) (encapsulation_opening ++ behind) behind (34 ∷ (encapsulation_end ++ rest)) rest refl refl refl in
-    subst (λ spelled. encapsulation_behind spelled (after encapsulation_opening spelled) ≡ Some (Some name, rest)) text
+    subst (λ spelled. encapsulation_behind spelled (past_literal encapsulation_opening spelled) ≡ Some (Some name, rest)) text
     (rw (after-append encapsulation_opening behind, name_in-complete name (encapsulation_end ++ rest) is, after-append encapsulation_end rest) refl)
 
 -- the parts of a protocol in order
@@ -63,10 +63,10 @@ protocol_in-sound : (text : List ℕ) (protocol : SimpleProtocol) (rest : List �
 unfolding protocol_in
 protocol_in-sound text protocol rest e =
     let name = bound (name_in text) _ (protocol, rest) e in
-    let parts = bound (after (codes ">") name.0.1) _ (protocol, rest) name.2 in
+    let parts = bound (past_literal (codes ">") name.0.1) _ (protocol, rest) name.2 in
     let fields = bound (format_in parts.0) _ (protocol, rest) parts.2 in
     let next = bound (encapsulation_in fields.0.1) _ (protocol, rest) fields.2 in
-    let ended = bound (after protocol_end next.0.1) _ (protocol, rest) next.2 in
+    let ended = bound (past_literal protocol_end next.0.1) _ (protocol, rest) next.2 in
     let named = name_in-sound text name.0.0 name.0.1 name.1 in
     let formed = format_in-sound parts.0 fields.0.0 fields.0.1 fields.1 in
     let followed = encapsulation_in-sound fields.0.1 next.0.0 next.0.1 next.1 in
@@ -76,14 +76,14 @@ protocol_in-sound text protocol rest e =
     )
 
 -- where no format part stands, the encapsulation part or the end comes
-format_stop : (next : Option (List ℕ)) (rest : List ℕ) → after format_opening (encapsulation_text next ++ (protocol_end ++ rest)) ≡ None
-unfolding after
+format_stop : (next : Option (List ℕ)) (rest : List ℕ) → past_literal format_opening (encapsulation_text next ++ (protocol_end ++ rest)) ≡ None
+unfolding past_literal
 format_stop None rest = refl
 format_stop (Some name) rest = refl
 
 -- where no encapsulation part stands, the end comes
-encapsulation_stop : (rest : List ℕ) → after encapsulation_opening (protocol_end ++ rest) ≡ None
-unfolding after
+encapsulation_stop : (rest : List ℕ) → past_literal encapsulation_opening (protocol_end ++ rest) ≡ None
+unfolding past_literal
 encapsulation_stop rest = refl
 
 protocol_in-complete : (protocol : SimpleProtocol) (rest : List ℕ) → IsProtocol protocol → protocol_in (protocol_tail protocol ++ rest) ≡ Some (protocol, rest)
@@ -117,22 +117,22 @@ pub protocols_in-sound : (text : List ℕ) (protocols : List SimpleProtocol) (re
 unfolding protocols_in
 protocols_in-sound = items_in-sound SimpleProtocol protocol_opening protocol_in IsProtocol protocol_tail protocols_text protocol_spelling
 
-pub protocols_in-complete : (protocols : List SimpleProtocol) (rest : List ℕ) → AllByRecursion IsProtocol protocols → after protocol_opening rest ≡ None → protocols_in (protocols_text protocols ++ rest) ≡ Some (protocols, rest)
+pub protocols_in-complete : (protocols : List SimpleProtocol) (rest : List ℕ) → AllByRecursion IsProtocol protocols → past_literal protocol_opening rest ≡ None → protocols_in (protocols_text protocols ++ rest) ≡ Some (protocols, rest)
 unfolding protocols_in
 protocols_in-complete = items_in-complete SimpleProtocol protocol_opening protocol_in IsProtocol protocol_tail protocols_text protocol_spelling
 
 -- a loop over protocols
-pub protocols-more : (front : List SimpleProtocol) (text behind : List ℕ) (first : SimpleProtocol) (rest : List ℕ) → after protocol_opening text ≡ Some behind → protocol_in behind ≡ Some (first, rest) → with_front (front ++ first ∷ []) (protocols_in rest) ≡ with_front front (protocols_in text)
+pub protocols-more : (front : List SimpleProtocol) (text behind : List ℕ) (first : SimpleProtocol) (rest : List ℕ) → past_literal protocol_opening text ≡ Some behind → protocol_in behind ≡ Some (first, rest) → with_front (front ++ first ∷ []) (protocols_in rest) ≡ with_front front (protocols_in text)
 unfolding protocols_in
 protocols-more = front-more SimpleProtocol protocol_opening protocol_in IsProtocol protocol_tail protocols_text protocol_spelling
 
-pub protocols-end : (front : List SimpleProtocol) (text : List ℕ) → after protocol_opening text ≡ None → with_front front (protocols_in text) ≡ Some (front, text)
+pub protocols-end : (front : List SimpleProtocol) (text : List ℕ) → past_literal protocol_opening text ≡ None → with_front front (protocols_in text) ≡ Some (front, text)
 unfolding protocols_in
 protocols-end = front-end SimpleProtocol protocol_opening protocol_in IsProtocol protocol_tail protocols_text protocol_spelling
 
-pub protocols-refused : (front : List SimpleProtocol) (text behind : List ℕ) → after protocol_opening text ≡ Some behind → protocol_in behind ≡ None → with_front front (protocols_in text) ≡ None
+pub protocols-refused : (front : List SimpleProtocol) (text behind : List ℕ) → past_literal protocol_opening text ≡ Some behind → protocol_in behind ≡ None → with_front front (protocols_in text) ≡ None
 unfolding protocols_in
 protocols-refused = front-refused SimpleProtocol protocol_opening protocol_in IsProtocol protocol_tail protocols_text protocol_spelling
 
-pub protocol-falls : (text behind : List ℕ) (first : SimpleProtocol) (rest : List ℕ) → after protocol_opening text ≡ Some behind → protocol_in behind ≡ Some (first, rest) → length rest < length text
+pub protocol-falls : (text behind : List ℕ) (first : SimpleProtocol) (rest : List ℕ) → past_literal protocol_opening text ≡ Some behind → protocol_in behind ≡ Some (first, rest) → length rest < length text
 protocol-falls = item_falls SimpleProtocol protocol_opening protocol_in IsProtocol protocol_tail protocols_text protocol_spelling

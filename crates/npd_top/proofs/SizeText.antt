@@ -9,7 +9,7 @@ use Rattle.std.proofs.lemmas.Bool.{false≢true}
 use Rattle.std.proofs.lemmas.Bool.Decides.{nat_tests}
 use Rattle.std.proofs.lemmas.Str.Parse.{IsNumeralModel, numerals_by_value}
 use Rattle.std.proofs.lemmas.Fmt.{decimal-digits_value, decimal_digit, first_decimal, length-decimal-le, decimal_nonempty, digits_decimal, digits_value-decimal}
-use Rattle.npd_top.specs.Reading.{after, when, is_size, size_in}
+use Rattle.npd_top.specs.Reading.{past_literal, guarded, is_size, size_in}
 use Rattle.npd_top.proofs.Literals.{after-append}
 use Rattle.npd_top.proofs.Sizes.{front_passes}
 use Rattle.npd_top.proofs.Binds.{bound, when_is, and_is, run_length, run_and_quote}
@@ -79,7 +79,7 @@ pub size_in-sound : (text : List ℕ) (size : ℕ) (rest : List ℕ) → size_in
 unfolding size_in
 size_in-sound text size rest e =
     let count = prefix_len is_ascii_digit text in
-    let quoted = bound (after (34 ∷ []) (drop count text)) (λ behind. when (is_size (take count text)) (digits_value 10 (take count text), behind)) (size, rest) e in
+    let quoted = bound (past_literal (34 ∷ []) (drop count text)) (λ behind. guarded (is_size (take count text)) (digits_value 10 (take count text), behind)) (size, rest) e in
     let sized = when_is (is_size (take count text)) (digits_value 10 (take count text), quoted.0) (size, rest) quoted.2 in
     let is : digits_value 10 (take count text) ≡ size = ap (λ (read : ℕ × List ℕ). read.0) sized.1 in
     let behind : quoted.0 ≡ rest = ap (λ (read : ℕ × List ℕ). read.1) sized.1 in

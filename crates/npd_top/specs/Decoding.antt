@@ -7,19 +7,19 @@ use Rattle.db_model.specs.declared.tree.Node.{Node}
 use Rattle.db_model.specs.declared.tree.Node.TheVariants.{Field, Note}
 use Rattle.db_model.specs.declared.tree.Proto.{Proto}
 use Rattle.npd_top.specs.declared.decode.Chain.{Chain}
-use Rattle.npd_top.specs.declared.decode.Went.{Went}
+use Rattle.npd_top.specs.declared.decode.FieldsEnd.{FieldsEnd}
 use Rattle.npd_top.specs.declared.simple.SimpleField.{SimpleField}
 use Rattle.npd_top.specs.declared.simple.SimpleProtocol.{SimpleProtocol}
 
 -- a reason ends the decoding: its note is the last node
-abbrev pub stopped : Reason → ℕ → ℕ → Went
-stopped reason at room = record { nodes = Note reason at ∷ []; at = at; room = room; is_stopped = true }
+abbrev pub noted_end : Reason → ℕ → ℕ → FieldsEnd
+noted_end reason at room = record { nodes = Note reason at ∷ []; at = at; room = room; is_stopped = true }
 
-abbrev pub with_node : Node → Went → Went
+abbrev pub with_node : Node → FieldsEnd → FieldsEnd
 with_node node went = record { nodes = node ∷ went.nodes; at = went.at; room = went.room; is_stopped = went.is_stopped }
 
 -- nodes in front of those that fields come to
-abbrev pub with_nodes : List Node → Went → Went
+abbrev pub with_nodes : List Node → FieldsEnd → FieldsEnd
 with_nodes nodes went = record { nodes = nodes ++ went.nodes; at = went.at; room = went.room; is_stopped = went.is_stopped }
 
 -- why a field of this size can't be added: `short` where it passes the packet's end, else `nodes` where there is no room
@@ -27,12 +27,12 @@ abbrev pub refusal : ℕ → ℕ → ℕ → ℕ → Option Reason
 refusal size at room end = if nat_lt (end - at) size then Some Short else (if room == 0 then Some Nodes else None)
 
 -- a field with its bytes and what stands behind it, or the note of why it can't be added
-abbrev pub field_then : Option Reason → Node → ℕ → ℕ → Went → Went
+abbrev pub field_then : Option Reason → Node → ℕ → ℕ → FieldsEnd → FieldsEnd
 field_then None node at room went = with_node node went
-field_then (Some reason) node at room went = stopped reason at room
+field_then (Some reason) node at room went = noted_end reason at room
 
 -- fields in order
-unfoldable pub fields_from : ℕ → ℕ → ℕ → List SimpleField → List ℕ → Went
+unfoldable pub fields_from : ℕ → ℕ → ℕ → List SimpleField → List ℕ → FieldsEnd
 fields_from number at room [] bytes = record { nodes = []; at = at; room = room; is_stopped = false }
 fields_from number at room (field ∷ fields) bytes =
     field_then (refusal field.size at room (length bytes)) (Field number at field.size (take field.size (drop at bytes))) at room
@@ -59,14 +59,14 @@ goes_on proto chain = record { protos = proto ∷ chain.protos; at = chain.at }
 
 -- the protocol that a decoding goes on with: none where a reason stopped it, where no byte is left, or where the
 -- protocol names none
-abbrev pub chosen : List SimpleProtocol → Option (List ℕ) → ℕ → Went → Option ℕ
-chosen db next size went = if went.is_stopped || went.at == size then None else option_map (place_of db) next
+abbrev pub next_number : List SimpleProtocol → Option (List ℕ) → ℕ → FieldsEnd → Option ℕ
+next_number db next size went = if went.is_stopped || went.at == size then None else option_map (place_of db) next
 
 -- a protocol and those behind it: where one is chosen and no further one may be entered, `protocols`
-abbrev pub behind : Option (ℕ → Went → Chain) → ℕ → ℕ → Went → Option ℕ → Chain
-behind go number from went None = ends (proto_of number from went.nodes went.at) went.at
-behind None number from went (Some next) = ends (proto_of number from (went.nodes ++ Note Protocols went.at ∷ []) went.at) went.at
-behind (Some go) number from went (Some next) = goes_on (proto_of number from went.nodes went.at) (go next went)
+abbrev pub with_following : Option (ℕ → FieldsEnd → Chain) → ℕ → ℕ → FieldsEnd → Option ℕ → Chain
+with_following go number from went None = ends (proto_of number from went.nodes went.at) went.at
+with_following None number from went (Some next) = ends (proto_of number from (went.nodes ++ Note Protocols went.at ∷ []) went.at) went.at
+with_following (Some go) number from went (Some next) = goes_on (proto_of number from went.nodes went.at) (go next went)
 
 abbrev pub fields_of : Option SimpleProtocol → List SimpleField
 fields_of None = []
@@ -77,18 +77,18 @@ next_of None = None
 next_of (Some protocol) = protocol.next
 
 -- the fields of the protocol of this number, from this position on
-abbrev pub body : List SimpleProtocol → ℕ → ℕ → ℕ → List ℕ → Went
+abbrev pub body : List SimpleProtocol → ℕ → ℕ → ℕ → List ℕ → FieldsEnd
 body db number at room bytes = fields_from 0 at room (fields_of (slice_get db number)) bytes
 
 -- the protocols from this one on, where `more` may be entered behind it
 unfoldable pub chain : ℕ → List SimpleProtocol → ℕ → ℕ → ℕ → List ℕ → Chain
 chain zero db number at room bytes =
     let went = body db number at room bytes in
-    behind None number at went (chosen db (next_of (slice_get db number)) (length bytes) went)
+    with_following None number at went (next_number db (next_of (slice_get db number)) (length bytes) went)
 chain (suc more) db number at room bytes =
     let went = body db number at room bytes in
-    behind (Some (λ next before. chain more db next before.at before.room bytes)) number at went
-    (chosen db (next_of (slice_get db number)) (length bytes) went)
+    with_following (Some (λ next before. chain more db next before.at before.room bytes)) number at went
+    (next_number db (next_of (slice_get db number)) (length bytes) went)
 
 -- the bytes that no protocol took, as the field `data` of the protocol `payload`, which has the number 65,535
 abbrev pub payload_of : ℕ → List ℕ → List Proto

@@ -14,20 +14,20 @@ abbrev pub ◌>>=◌ : {A B : Type 0} → Option A → (A → Option B) → Opti
 read >>= more = option_and_then more read
 
 -- what stands behind a literal
-unfoldable pub after : List ℕ → List ℕ → Option (List ℕ)
-after [] text = Some text
-after (byte ∷ bytes) [] = None
-after (byte ∷ bytes) (first ∷ rest) = if first == byte then after bytes rest else None
+unfoldable pub past_literal : List ℕ → List ℕ → Option (List ℕ)
+past_literal [] text = Some text
+past_literal (byte ∷ bytes) [] = None
+past_literal (byte ∷ bytes) (first ∷ rest) = if first == byte then past_literal bytes rest else None
 
-abbrev pub when : {A : Type 0} → Bool → A → Option A
-when true value = Some value
-when false value = None
+abbrev pub guarded : {A : Type 0} → Bool → A → Option A
+guarded true value = Some value
+guarded false value = None
 
 -- a name up to the quote behind it, and what stands behind the quote
 unfoldable pub name_in : List ℕ → Option (List ℕ × List ℕ)
 name_in text =
     let count = prefix_len continues_name text in
-    after (codes "\"") (drop count text) >>= (λ rest. when (is_name (take count text)) (take count text, rest))
+    past_literal (codes "\"") (drop count text) >>= (λ rest. guarded (is_name (take count text)) (take count text, rest))
 
 -- digits of a size: one to five of them, the first not 0, at most 65,535
 abbrev pub is_size : List ℕ → Bool
@@ -38,13 +38,13 @@ is_size (first ∷ digits) = not (first == 48) && nat_le (length digits) 4 && na
 unfoldable pub size_in : List ℕ → Option (ℕ × List ℕ)
 size_in text =
     let count = prefix_len is_ascii_digit text in
-    after (codes "\"") (drop count text) >>= (λ rest. when (is_size (take count text)) (digits_value 10 (take count text), rest))
+    past_literal (codes "\"") (drop count text) >>= (λ rest. guarded (is_size (take count text)) (digits_value 10 (take count text), rest))
 
 -- a field behind its opening, and what stands behind it
 unfoldable pub field_in : List ℕ → Option (SimpleField × List ℕ)
 field_in text =
-    name_in text >>= (λ name. after (codes " type=\"fixed\" size=\"") name.1
-    >>= (λ sized. size_in sized >>= (λ size. after (codes "/>") size.1
+    name_in text >>= (λ name. past_literal (codes " type=\"fixed\" size=\"") name.1
+    >>= (λ sized. size_in sized >>= (λ size. past_literal (codes "/>") size.1
     >>= (λ rest. Some (record { name = name.0; size = size.0 }, rest)))))
 
 -- items that each begin with the opening, as many as there are, and what stands behind them
@@ -63,7 +63,7 @@ module _ (A : Type 0) (opening : List ℕ) (item : List ℕ → Option (A × Lis
 
   unfoldable pub items_within : ℕ → List ℕ → Option (List A × List ℕ)
   items_within zero text = None
-  items_within (suc fuel) text = items_step (λ rest. items_within fuel rest) text (after opening text)
+  items_within (suc fuel) text = items_step (λ rest. items_within fuel rest) text (past_literal opening text)
 
   unfoldable pub items_in : List ℕ → Option (List A × List ℕ)
   items_in text = items_within (suc (length text)) text
@@ -84,27 +84,27 @@ fields_in = items_in SimpleField field_opening field_in
 abbrev pub format_behind : List ℕ → Option (List ℕ) → Option (List SimpleField × List ℕ)
 format_behind text None = Some ([], text)
 format_behind text (Some behind) =
-    fields_in behind >>= (λ fields. after (codes "</fields></format>") fields.1
-    >>= (λ rest. when (not (is_nil fields.0)) (fields.0, rest)))
+    fields_in behind >>= (λ fields. past_literal (codes "</fields></format>") fields.1
+    >>= (λ rest. guarded (not (is_nil fields.0)) (fields.0, rest)))
 
 unfoldable pub format_in : List ℕ → Option (List SimpleField × List ℕ)
-format_in text = format_behind text (after (codes "<format><fields>") text)
+format_in text = format_behind text (past_literal (codes "<format><fields>") text)
 
 -- the encapsulation part, where its opening stands, else no next protocol
 abbrev pub encapsulation_behind : List ℕ → Option (List ℕ) → Option (Option (List ℕ) × List ℕ)
 encapsulation_behind text None = Some (None, text)
 encapsulation_behind text (Some behind) =
-    name_in behind >>= (λ name. after (codes "/></encapsulation>") name.1 >>= (λ rest. Some (Some name.0, rest)))
+    name_in behind >>= (λ name. past_literal (codes "/></encapsulation>") name.1 >>= (λ rest. Some (Some name.0, rest)))
 
 unfoldable pub encapsulation_in : List ℕ → Option (Option (List ℕ) × List ℕ)
-encapsulation_in text = encapsulation_behind text (after (codes "<encapsulation><nextproto proto=\"#") text)
+encapsulation_in text = encapsulation_behind text (past_literal (codes "<encapsulation><nextproto proto=\"#") text)
 
 -- a protocol's line behind its opening, and what stands behind it
 unfoldable pub protocol_in : List ℕ → Option (SimpleProtocol × List ℕ)
 protocol_in text =
-    name_in text >>= (λ name. after (codes ">") name.1
+    name_in text >>= (λ name. past_literal (codes ">") name.1
     >>= (λ parts. format_in parts >>= (λ fields. encapsulation_in fields.1
-    >>= (λ next. after (codes "</protocol>\n") next.1
+    >>= (λ next. past_literal (codes "</protocol>\n") next.1
     >>= (λ rest. Some (record { name = name.0; fields = fields.0; next = next.0 }, rest))))))
 
 unfoldable pub protocols_in : List ℕ → Option (List SimpleProtocol × List ℕ)
@@ -113,9 +113,9 @@ protocols_in = items_in SimpleProtocol protocol_opening protocol_in
 -- the protocols of a whole text
 unfoldable pub database_in : List ℕ → Option (List SimpleProtocol)
 database_in text =
-    after (codes "<netpdl>\n") text >>= (λ lines. protocols_in lines
-    >>= (λ protocols. after (codes "</netpdl>\n") protocols.1 >>= (λ rest. when (is_nil rest) protocols.0)))
+    past_literal (codes "<netpdl>\n") text >>= (λ lines. protocols_in lines
+    >>= (λ protocols. past_literal (codes "</netpdl>\n") protocols.1 >>= (λ rest. guarded (is_nil rest) protocols.0)))
 
 -- the simple database that a text spells
 unfoldable pub simple_in : List ℕ → Option (List SimpleProtocol)
-simple_in text = database_in text >>= (λ db. when (nat_le (length text) 1048576 && is_consistent db) db)
+simple_in text = database_in text >>= (λ db. guarded (nat_le (length text) 1048576 && is_consistent db) db)

@@ -19,7 +19,7 @@ pub const PAYLOAD: u16 = 65_535;
 
 /// What the fields of a protocol come to.
 #[derive(Drop)]
-pub struct Went {
+pub struct FieldsEnd {
     pub nodes: Items<Node>,
     /// The position behind them.
     pub at: u32,
@@ -79,7 +79,7 @@ fn decode_fields(
     at: u32,
     room: u32,
     bytes: &[u8],
-) -> Result<Went, NoMemory>
+) -> Result<FieldsEnd, NoMemory>
     requires within { at ≤ length bytes.now }
     requires bound { length bytes.now ≤ MOST_BYTES }
     ensures meaning { IfOk result (λ went.
@@ -87,7 +87,7 @@ fn decode_fields(
     ensures within { IfOk result (λ went. went.at ≤ length bytes.now) }
     ensures onward { IfOk result (λ went. at ≤ went.at) }
 {
-    let mut went = Went {
+    let mut went = FieldsEnd {
         nodes: Items::new(alloc),
         at,
         room,
@@ -127,9 +127,14 @@ fn place_of(db: &[SimpleProtocol], name: &[u8]) -> usize
 
 /// The protocol that a decoding goes on with: none where a reason stopped it, where no byte is left, or where the
 /// protocol names none.
-fn chosen(db: &[SimpleProtocol], next: Option<&Name>, end: usize, went: &Went) -> Option<u16>
+fn next_number(
+    db: &[SimpleProtocol],
+    next: Option<&Name>,
+    end: usize,
+    went: &FieldsEnd,
+) -> Option<u16>
     requires few { length db.now ≤ MOST_PROTOCOLS }
-    ensures value { result ≡ Decoding.chosen db.now (option_copied next.entry) end went.now }
+    ensures value { result ≡ Decoding.next_number db.now (option_copied next.entry) end went.now }
 {
     if went.is_stopped || went.at as usize == end {
         return None;
@@ -169,7 +174,12 @@ fn next_of(db: &[SimpleProtocol], number: u16) -> Option<&Name>
 }
 
 /// The tree's protocols with the last one behind them.
-fn finish(mut protos: Items<Proto>, number: u16, from: u32, went: Went) -> Result<Chain, NoMemory>
+fn finish(
+    mut protos: Items<Proto>,
+    number: u16,
+    from: u32,
+    went: FieldsEnd,
+) -> Result<Chain, NoMemory>
     requires { from ≤ went.at }
     ensures { IfOk result (λ chain. chain ≡ Decoding.with_protos protos
         (Decoding.ends (Decoding.proto_of number from went.nodes went.at) went.at)) }
@@ -199,7 +209,7 @@ fn decode_chain(
     let mut at = 0;
     loop {
         let mut went = decode_fields(alloc, fields_of(db, number), at, room, bytes)?;
-        let Some(next) = chosen(db, next_of(db, number), bytes.len(), &went) else {
+        let Some(next) = next_number(db, next_of(db, number), bytes.len(), &went) else {
             return finish(protos, number, at, went);
         };
         if more == 0 {

@@ -72,7 +72,7 @@ fn digits_length(text: &[u8]) -> usize
 /// The size that digits spell: one to five of them, the first not 0, at most 65,535.
 fn size_of(digits: &[u8]) -> Option<u32>
     requires { IsTrue (list_all is_ascii_digit digits.now) }
-    ensures { result ≡ Reading.when (Reading.is_size digits.now) (digits_value 10 digits.now) }
+    ensures { result ≡ Reading.guarded (Reading.is_size digits.now) (digits_value 10 digits.now) }
 {
     if digits.is_empty() || digits.len() > 5 || digits[0] == b'0' {
         return None;
@@ -88,8 +88,8 @@ impl<'a> Reader<'a> {
     /// Goes past a literal, where it stands here.
     fn goes_past(&mut self, literal: &[u8]) -> bool
         ensures { MatchBool result
-            (Reading.after literal.now self.old.rest.now ≡ Some self.new.rest.now)
-            ((Reading.after literal.now self.old.rest.now ≡ None) × (self.new.rest.now ≡ self.old.rest.now)) }
+            (Reading.past_literal literal.now self.old.rest.now ≡ Some self.new.rest.now)
+            ((Reading.past_literal literal.now self.old.rest.now ≡ None) × (self.new.rest.now ≡ self.old.rest.now)) }
     {
         match self.rest.strip_prefix(literal) {
             Some(rest) => {
@@ -102,7 +102,7 @@ impl<'a> Reader<'a> {
 
     /// Goes past a literal that has to stand here.
     fn literal(&mut self, literal: &[u8]) -> Result<(), ReadFail>
-        ensures { IsPast result (Reading.after literal.now self.old.rest.now) self.new.rest.now }
+        ensures { IsPast result (Reading.past_literal literal.now self.old.rest.now) self.new.rest.now }
     {
         if self.goes_past(literal) {
             Ok(())
