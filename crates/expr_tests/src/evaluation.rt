@@ -148,22 +148,39 @@ fn is_wanted(end: &Result<Value, EvalEnd>, wanted: Wanted) -> bool {
     }
 }
 
+/// Whether an expression comes to what is wanted, and asks so many questions.
+fn comes_to(
+    alloc: Global,
+    db: &CheckedDb,
+    text: &[u8],
+    questions: u32,
+    decoded: Decoded,
+    wanted: Wanted,
+    asked: usize,
+) -> Result<bool, ExprFail> {
+    let e = parse_expr(alloc, text)?;
+    let (end, count) = evaluated(alloc, db, &e, questions, decoded)?;
+    Ok(is_wanted(&end, wanted) && count == asked)
+}
+
 /// The place of the first case that comes to something else.
-fn first_wrong(alloc: Global) -> Result<Option<usize>, ExprFail> {
-    let db = keyed_database(alloc)?;
+fn first_wrong(alloc: Global, db: &CheckedDb) -> Result<Option<usize>, ExprFail> {
     for (i, (text, questions, decoded, wanted, asked)) in CASES.iter().enumerate() {
-        let e = parse_expr(alloc, text)?;
-        let (end, count) = evaluated(alloc, &db, &e, *questions, decoded)?;
-        if !is_wanted(&end, *wanted) || count != *asked {
+        if !comes_to(alloc, db, text, *questions, decoded, *wanted, *asked)? {
             return Ok(Some(i));
         }
     }
     Ok(None)
 }
 
+fn first_wrong_over_the_sample(alloc: Global) -> Result<Option<usize>, ExprFail> {
+    let db = keyed_database(alloc)?;
+    first_wrong(alloc, &db)
+}
+
 #[test]
 fn expressions_come_to_what_is_wanted(rt: HostRuntime) -> Result<(), Fail> {
-    let wrong = first_wrong(rt.alloc())?;
+    let wrong = first_wrong_over_the_sample(rt.alloc())?;
     assert!(rt; wrong.is_none());
     Ok(())
 }
