@@ -10,11 +10,12 @@ use Rattle.db_model.specs.declared.entry.Validity.{Validity}
 use Rattle.db_model.specs.declared.entry.Validity.TheVariants.{Forever, MaxTime, UpdateOnHit, AddOnHit}
 use Rattle.db_model.specs.declared.expression.Expr as expr
 use Rattle.db_model.specs.declared.expression.Operator.TheVariants as op
+use Rattle.db_model.specs.declared.fault.Fault.{Fault}
 use Rattle.db_model.specs.BlockFaults.{fault_45, fault_46}
 use Rattle.db_model.specs.Lines.{Lines}
 use Rattle.db_model.specs.Names.{Text}
 use Rattle.db_model.specs.NumberFaults.{fault_43, fault_44}
-use Rattle.db_model.specs.Objection.{Fault, faults, objection}
+use Rattle.db_model.specs.Objection.{faults, objection}
 use Rattle.db_model.specs.TypeFaults.{fault_47}
 use Rattle.db_examples.specs.Cases.{AreAlike, in_block, times, choice}
 use Rattle.db_examples.specs.Samples.{fixed, bits, case, branch, protocol, fields, named_block, database}

@@ -1,5 +1,4 @@
 mod Each
-mod Least
 mod Means
 mod NoLiteral
 mod Parts

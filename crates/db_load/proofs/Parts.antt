@@ -5,15 +5,16 @@ use Rattle.std.proofs.lemmas.Grind.{common_steps}
 use Rattle.db_model.specs.Names.{Text}
 use Rattle.db_text.specs.declared.node.Node.{Node, out-Node, map-Node}
 use Rattle.db_text.specs.declared.node.Node.TheFolds.{fold_out-Node}
-use Rattle.db_load.specs.declared.fault.Fault.{Fault}
+use Rattle.db_model.specs.declared.fault.Fault.{Fault}
 use Rattle.db_load.specs.declared.kind.Kind.{Kind}
 use Rattle.db_load.specs.declared.kind.Kind.TheVariants as kind
 use Rattle.db_load.specs.declared.levels.TheConstants.{MOST_LEVELS}
 use Rattle.db_load.specs.declared.word.Word.TheVariants as word
 use Rattle.db_load.specs.Words.{spelled}
 use Rattle.db_load.specs.declared.rule.Child.{Child}
-use Rattle.db_load.proofs.Least.{earlier_assoc, least_append}
-use Rattle.db_load.specs.Faults.{Part, part, part_step, own, of_attributes, of_place, below, names_in, of_child, row_of, at_line, earlier, least, faults, refusal}
+use Rattle.db_model.specs.LeastFault.{earlier, least}
+use Rattle.db_model.proofs.LeastFault.{earlier_assoc, least_append}
+use Rattle.db_load.specs.Faults.{Part, part, part_step, own, of_attributes, of_place, below, names_in, of_child, row_of, at_line, faults, refusal}
 use Rattle.db_load.specs.Rules.{children}
 
 -- one layer of it

@@ -3,8 +3,8 @@ use Rattle.std.specs.Prelude.{◌≡◌, ◌⊎◌, ℕ, List, Some, None, Resul
 use Rattle.db_model.specs.declared.database.Database.{Database}
 use Rattle.db_text.specs.declared.node.Node.{Node}
 use Rattle.db_text.specs.Refusal.{IsText, IsRefused}
-use Rattle.db_load.specs.declared.fail.DbFail.{DbFail}
-use Rattle.db_load.specs.declared.fail.DbFail.TheVariants as fail
+use Rattle.db_model.specs.declared.fault.DbFail.{DbFail}
+use Rattle.db_model.specs.declared.fault.DbFail.TheVariants as fail
 use Rattle.db_load.specs.Faults.{refusal}
 use Rattle.db_load.specs.Whole.{database_of}
 

@@ -1,10 +1,11 @@
 -- The faults of shape: which stand at an element, by what it is where it stands and how many levels may still stand in it. Of all faults of a text the least line is answered, and on that line the least code.
 use Rattle.std.specs.Prelude.{ℕ, ◌+◌, ◌-◌, Bool, true, false, not, ◌||◌, ◌&&◌, ◌==◌, nat_lt, nat_le, if◌then◌else◌, List, [], ◌∷◌, ◌++◌, map, bytes_eq, Option, Some, None}
+use Rattle.db_model.specs.declared.fault.Fault.{Fault}
+use Rattle.db_model.specs.LeastFault.{least}
 use Rattle.db_model.specs.Names.{Text}
 use Rattle.db_text.specs.declared.node.Attribute.{Attribute}
 use Rattle.db_text.specs.declared.node.Node.{Node, Node-F, out-Node}
 use Rattle.db_text.specs.declared.node.Node.TheFolds.{fold-Node}
-use Rattle.db_load.specs.declared.fault.Fault.{Fault}
 use Rattle.db_load.specs.declared.kind.Kind.{Kind}
 use Rattle.db_load.specs.declared.kind.Kind.TheVariants as kind
 use Rattle.db_load.specs.declared.kind.ListKind.TheVariants as list
@@ -197,21 +198,6 @@ part = fold-Node Part part_step
 -- the faults of an element and of all that stands in it
 abbrev pub faults : Kind → ℕ → Node → List Fault
 faults k left n = (part n).inside k left
-
--- ---- the least fault
-
--- a lesser line, or the same one and a code that isn't greater
-abbrev pub comes_first : Fault → Fault → Bool
-comes_first a b = nat_lt a.line b.line || (a.line == b.line && nat_le a.code b.code)
-
-abbrev pub earlier : Option Fault → Option Fault → Option Fault
-earlier None b = b
-earlier (Some a) None = Some a
-earlier (Some a) (Some b) = if comes_first a b then Some a else Some b
-
-abbrev pub least : List Fault → Option Fault
-least [] = None
-least (f ∷ fs) = earlier (Some f) (least fs)
 
 -- the top element is the database, in which 32 levels may stand
 abbrev pub of_top : Part → List Fault

@@ -2,8 +2,7 @@ ghost use Rattle.db_load.specs.Answer.{Answers, Judges};
 
 use crate::protocol::database_of;
 use crate::walk::refusal;
-use crate::{DbFail, Fault};
-use db_model::Database;
+use db_model::{Database, DbFail, Fault};
 use db_text::{Node, TextFail, read_elements};
 use std::alloc::Global;
 

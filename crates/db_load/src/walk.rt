@@ -2,34 +2,18 @@
 
 ghost use Rattle.std.specs.Prelude.{◌≡◌, map, IfOk, Some};
 ghost use Rattle.db_text.specs.declared.node.Node.{Node, out-Node};
+ghost use Rattle.db_model.specs.LeastFault.{least};
 ghost use Rattle.db_load.specs.Faults;
 
 use crate::attribute::{decided, has_malformed, has_stray, lacks};
 use crate::child::{has_wrong_children, row_of};
-use crate::{Child, Fault, Kind, ListKind, MOST_LEVELS, Word, children, rules};
-use db_model::NoMemory;
+use crate::{Child, Kind, ListKind, MOST_LEVELS, Word, children, rules};
+use db_model::{Fault, NoMemory};
 use db_text::Node;
 use std::alloc::Global;
 
-fn comes_first(a: Fault, b: Fault) -> bool
-    ensures { result ≡ Faults.comes_first a b }
-{
-    a.line < b.line || a.line == b.line && a.code <= b.code
-}
-
-/// The fault of the lesser line, and on one line that of the lesser code.
-fn earlier(a: Option<Fault>, b: Option<Fault>) -> Option<Fault>
-    ensures { result ≡ Faults.earlier a b }
-{
-    match (a, b) {
-        (None, _) => b,
-        (Some(_), None) => a,
-        (Some(f), Some(g)) => { if comes_first(f, g) { a } else { b } }
-    }
-}
-
 fn at_line(line: u32, code: u8, stands: bool) -> Option<Fault>
-    ensures { result ≡ Faults.least (Faults.at_line line code stands) }
+    ensures { result ≡ least (Faults.at_line line code stands) }
 {
     if stands {
         Some(Fault { line, code })
@@ -49,50 +33,50 @@ fn is_astray(kind: Kind) -> bool
 }
 
 /// The least fault of the attributes of an element.
-#[tactic(auto, using(crate::proofs::Least::least_append), unfolding(crate::specs::Faults::of_attributes))]
+#[tactic(auto, using(db_model::proofs::LeastFault::least_append), unfolding(crate::specs::Faults::of_attributes))]
 fn of_attributes(alloc: Global, kind: Kind, node: &Node) -> Result<Option<Fault>, NoMemory>
-    ensures { IfOk result (λ f. f ≡ Faults.least (Faults.of_attributes kind (out-Node node.now).line (out-Node node.now).attributes)) }
+    ensures { IfOk result (λ f. f ≡ least (Faults.of_attributes kind (out-Node node.now).line (out-Node node.now).attributes)) }
 {
     let attributes = node.attributes.as_slice();
     let rules = rules(kind);
     let decided = decided(alloc, kind, attributes)?;
     let malformed = has_malformed(alloc, false, decided, rules, attributes)?;
     let misparsed = has_malformed(alloc, true, decided, rules, attributes)?;
-    let values = earlier(
+    let values = Fault::earlier(
         at_line(node.line, 23, malformed),
         at_line(node.line, 24, misparsed),
     );
     let missing = at_line(node.line, 22, lacks(decided, attributes, rules));
     let stray = at_line(node.line, 21, has_stray(decided, rules, attributes));
-    Ok(earlier(stray, earlier(missing, values)))
+    Ok(Fault::earlier(stray, Fault::earlier(missing, values)))
 }
 
 /// The least fault of what stands in an element and of where it stands.
-#[tactic(auto, using(crate::proofs::Least::least_append), unfolding(crate::specs::Faults::of_place))]
+#[tactic(auto, using(db_model::proofs::LeastFault::least_append), unfolding(crate::specs::Faults::of_place))]
 fn of_place(kind: Kind, left: u32, node: &Node) -> Option<Fault>
-    ensures { result ≡ Faults.least (Faults.of_place kind left (out-Node node.now).line (Faults.names_in (out-Node node.now).children)) }
+    ensures { result ≡ least (Faults.of_place kind left (out-Node node.now).line (Faults.names_in (out-Node node.now).children)) }
 {
     let line = node.line;
     let inside = has_wrong_children(kind, node.children.as_slice());
     let astray = at_line(line, 27, is_astray(kind));
-    earlier(
+    Fault::earlier(
         at_line(line, 25, inside),
-        earlier(at_line(line, 26, left == 0), astray),
+        Fault::earlier(at_line(line, 26, left == 0), astray),
     )
 }
 
 /// The least fault of an element and of all that stands in it, where so many levels may still stand in it.
 #[cycle(walk)]
 fn inside(alloc: Global, kind: Kind, left: u32, node: &Node) -> Result<Option<Fault>, NoMemory>
-    ensures { IfOk result (λ f. f ≡ Faults.least (Faults.faults kind left node.now)) }
+    ensures { IfOk result (λ f. f ≡ least (Faults.faults kind left node.now)) }
 {
-    let own = earlier(
+    let own = Fault::earlier(
         of_attributes(alloc, kind, node)?,
         of_place(kind, left, node),
     );
     let nodes = node.children.as_slice();
     let below = below(alloc, children(kind), left.saturating_sub(1), nodes)?;
-    Ok(earlier(own, below))
+    Ok(Fault::earlier(own, below))
 }
 
 #[cycle(walk)]
@@ -102,12 +86,12 @@ fn below(
     left: u32,
     nodes: &[Node],
 ) -> Result<Option<Fault>, NoMemory>
-    ensures { IfOk result (λ f. f ≡ Faults.least (Faults.below rows.now left (map Faults.part nodes.now))) }
+    ensures { IfOk result (λ f. f ≡ least (Faults.below rows.now left (map Faults.part nodes.now))) }
 {
     let mut found = None;
     for node in nodes {
         let row = row_of(rows, node.name.as_slice());
-        found = earlier(found, of_child(alloc, row, left, node)?);
+        found = Fault::earlier(found, of_child(alloc, row, left, node)?);
     }
     Ok(found)
 }
@@ -120,7 +104,7 @@ fn of_child(
     left: u32,
     node: &Node,
 ) -> Result<Option<Fault>, NoMemory>
-    ensures { IfOk result (λ f. f ≡ Faults.least (Faults.of_child row left (Faults.part node.now))) }
+    ensures { IfOk result (λ f. f ≡ least (Faults.of_child row left (Faults.part node.now))) }
 {
     match row {
         None => Ok(at_line(node.line, 20, true)),

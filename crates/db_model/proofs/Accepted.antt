@@ -1,5 +1,5 @@
 -- In a database without an objection none of the eight faults stands.
-use Rattle.std.specs.Prelude.{◌≡◌, ℕ, ◌≤◌, List, [], ◌∷◌, ◌++◌, map, length, drop, None}
+use Rattle.std.specs.Prelude.{◌≡◌, ℕ, ◌≤◌, Bool, true, false, if◌then◌else◌, List, [], ◌∷◌, ◌++◌, map, length, drop, Option, Some, None}
 use Rattle.std.proofs.Common.{refl, ap, arith, length-drop}
 use Rattle.std.proofs.lemmas.List.{length-map}
 use Rattle.db_model.specs.declared.database.Protocol.{Protocol}
@@ -7,11 +7,13 @@ use Rattle.db_model.specs.declared.database.TableDecl.{TableDecl}
 use Rattle.db_model.specs.declared.database.VarDecl.{VarDecl}
 use Rattle.db_model.specs.declared.limits.TheConstants.{MOST_PROTOCOLS, MOST_VARIABLES, MOST_TABLES, MOST_SHOW_TEMPLATES, MOST_SUM_TEMPLATES}
 use Rattle.db_model.specs.declared.database.Database.{Database}
+use Rattle.db_model.specs.declared.fault.Fault.{Fault}
 use Rattle.db_model.specs.BlockFaults.{fault_45, fault_46}
 use Rattle.db_model.specs.Lines.{Lines, over, lines_in}
 use Rattle.db_model.specs.NameFaults.{fault_40, fault_41}
 use Rattle.db_model.specs.NumberFaults.{own_43, tables_43, template_43, first_line, too_many, fault_43, fault_44}
-use Rattle.db_model.specs.Objection.{Fault, coded, faults, least, objection}
+use Rattle.db_model.specs.LeastFault.{comes_first, earlier, least}
+use Rattle.db_model.specs.Objection.{coded, faults, objection}
 use Rattle.db_model.specs.TypeFaults.{fault_42, fault_47}
 
 pub append_front : {A : Type 0} (xs ys : List A) → xs ++ ys ≡ [] → xs ≡ []
@@ -22,9 +24,17 @@ pub append_back : {A : Type 0} (xs ys : List A) → xs ++ ys ≡ [] → ys ≡ [
 append_back [] ys e = e
 append_back (x ∷ xs) ys e = (cc)
 
+one_of_two : (b : Bool) (f g : Fault) → (if b then Some f else Some g) ≡ None → ⊥
+one_of_two true f g e = (cc)
+one_of_two false f g e = (cc)
+
+earlier_some : (f : Fault) (o : Option Fault) → earlier (Some f) o ≡ None → ⊥
+earlier_some f None e = (cc)
+earlier_some f (Some g) e = one_of_two (comes_first f g) f g e
+
 least_none : (fs : List Fault) → least fs ≡ None → fs ≡ []
 least_none [] e = refl
-least_none (f ∷ fs) e = (cc)
+least_none (f ∷ fs) e = absurd (earlier_some f (least fs) e)
 
 coded_none : (code : ℕ) (ls : Lines) → coded code ls ≡ [] → ls ≡ []
 coded_none code [] e = refl

@@ -11,7 +11,7 @@ pub mod Fitting
 pub mod Folds
 pub mod Forms
 pub mod Kept
-pub mod Laws
+pub mod LeastFault
 pub mod Lines
 pub mod Name
 pub mod NameIndex

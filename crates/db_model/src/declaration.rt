@@ -2,8 +2,8 @@ ghost use Rattle.std.specs.Prelude.{◌≡◌, ◌≤◌, length, map, Some};
 ghost use Rattle.db_model.specs.Names.{place, protocol_at, variable_at, table_at, column_at};
 
 use crate::{
-    ColumnDecl, Database, KeyDecl, NamedBlock, Protocol, SectionDecl, ShowTemplate, SumTemplate,
-    TableDecl, VarDecl,
+    ColumnDecl, Database, KeyDecl, Name, NamedBlock, Protocol, SectionDecl, ShowTemplate,
+    SumTemplate, TableDecl, VarDecl,
 };
 
 /// What is declared under a name.
@@ -77,6 +77,15 @@ impl Declaration for SectionDecl {
 
     fn name(&self) -> &[u8] {
         self.name.as_slice()
+    }
+}
+
+/// A name by itself, as in the list of a protocol's field names.
+impl Declaration for Name {
+    ghost named = { λ n. n };
+
+    fn name(&self) -> &[u8] {
+        self.as_slice()
     }
 }
 

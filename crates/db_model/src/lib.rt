@@ -2,8 +2,7 @@
 //! expressions, elements and the chain of protocols do, the tree of a packet, and what a log says when it is
 //! asked again. Every layer's contracts are stated against these definitions (`specs/`). Contracts see each
 //! type as plain data (a list, a number or a record), so two values are equal where what they show is equal.
-//! `CheckedDb` is a database whose elements stand where they may, without any of the eight faults; `laws` has the
-//! theorems about the definitions.
+//! `CheckedDb` is a database whose elements stand where they may, without any of the eight faults.
 #![tactic(auto)]
 
 mod bytes;
@@ -14,9 +13,9 @@ mod element;
 mod entry;
 mod env;
 mod expression;
+mod fault;
 mod field_kind;
 mod field_names;
-pub mod laws;
 mod limits;
 mod name_index;
 mod names;
@@ -75,6 +74,8 @@ pub use expression::Literal;
 pub use expression::Operator;
 pub use expression::Special;
 pub use expression::TypeFault;
+pub use fault::DbFail;
+pub use fault::Fault;
 pub use field_kind::CaseRange;
 pub use field_kind::FieldKind;
 pub use field_names::FieldNames;

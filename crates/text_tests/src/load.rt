@@ -1,4 +1,4 @@
-use db_load::{DbFail, load_database};
+use db_load::load_database;
 use db_model::NoMemory;
 use std::alloc::{AllocError, Global};
 use std::test::Fail;

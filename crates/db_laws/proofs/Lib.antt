@@ -1,0 +1,11 @@
+pub mod Replay
+pub mod Serial
+pub mod Kept
+pub mod LawsHold
+pub mod Includes
+pub mod Cycles
+pub mod Fitted
+pub mod Proper
+pub mod ProperRuns
+pub mod ProperDecoding
+pub mod Typed

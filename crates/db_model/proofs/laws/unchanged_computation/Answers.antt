@@ -1,5 +1,0 @@
-use Rattle.db_model.proofs.LawsHold.{unchanged_computation}
-use Rattle.db_model.proofs.laws.unchanged_computation.Goals as goal
-
-pub returns : goal.returns
-returns g c = unchanged_computation _ _
