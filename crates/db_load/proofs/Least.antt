@@ -33,9 +33,13 @@ least_in (g ∷ fs) f e = by (least fs) refl e (λ x. least_in fs f x)
 abbrev IsFirst : List Fault → Fault → Type 0
 IsFirst fs f = (i : ℕ) (g : Fault) → slice_get fs i ≡ Some g → comes_first f g ≡ true
 
+none_there : (fs : List Fault) (i : ℕ) (g : Fault) → fs ≡ [] → slice_get fs i ≡ Some g → ⊥
+none_there [] i g e h = (cc)
+none_there (f ∷ fs) i g e h = (cc)
+
 first_alone : (f : Fault) (fs : List Fault) → fs ≡ [] → IsFirst (f ∷ fs) f
 first_alone f fs e zero g h = let is : f ≡ g = cc in subst (λ x. comes_first f x ≡ true) is (itself_first f)
-first_alone f fs e (suc i) g h = let none : slice_get {A = Fault} [] i ≡ Some g = sym (ap (λ l. slice_get l i) e) ∙ h in (cc)
+first_alone f fs e (suc i) g h = absurd (none_there fs i g e h)
 
 first_before : (f m : Fault) (fs : List Fault) → comes_first f m ≡ true → IsFirst fs m → IsFirst (f ∷ fs) f
 first_before f m fs b rest zero g h = let is : f ≡ g = cc in subst (λ x. comes_first f x ≡ true) is (itself_first f)
