@@ -3,7 +3,7 @@ use Rattle.std.specs.Prelude.{◌≡◌, ℕ, ◌-◌, ◌+◌, ◌==◌, Bool, 
 use Rattle.std.specs.Cmp.Lexicographic.{bytes_decides}
 use Rattle.std.specs.List.{list_all}
 use Rattle.std.proofs.Common.{refl, ap, sym, subst, ◌∙◌, arith}
-use Rattle.std.proofs.lemmas.Bool.{and_parts, or_parts}
+use Rattle.std.proofs.lemmas.Bool.{or_parts}
 use Rattle.db_model.specs.declared.fault.Fault.{Fault}
 use Rattle.db_model.specs.Forms.{if_there}
 use Rattle.db_model.specs.LeastFault.{comes_first, earlier, least}
@@ -21,7 +21,7 @@ use Rattle.db_load.specs.Rules.{children}
 use Rattle.db_load.specs.Whole.{is, each_of, one_of}
 use Rattle.db_load.specs.Words.{spelled}
 use Rattle.db_load.proofs.Means.{meant_name}
-use Rattle.db_load.proofs.Parts.{part_name, part_line, part_inside}
+use Rattle.db_load.proofs.Parts.{part_name, part_inside}
 use Rattle.db_load.proofs.Trees.{Each}
 use Rattle.db_load.proofs.ValueForms.{both}
 

@@ -1,13 +1,11 @@
 -- In a tree without faults each value has its form.
 use Rattle.std.specs.Prelude.{◌≡◌, ℕ, zero, suc, ◌-◌, Bool, true, false, not, ◌&&◌, ◌||◌, bytes_eq, if◌then◌else◌, List, [], ◌∷◌, ◌++◌, map, slice_get, Option, Some, None}
-use Rattle.std.specs.Cmp.Lexicographic.{bytes_decides}
 use Rattle.std.proofs.Common.{refl, ap, sym, subst, ◌∙◌}
 use Rattle.std.proofs.lemmas.Bool.{or_parts}
 use Rattle.db_model.specs.Names.{Text}
 use Rattle.db_text.specs.declared.node.Attribute.{Attribute}
 use Rattle.db_text.specs.declared.node.Node.{Node, out-Node}
 use Rattle.db_load.specs.declared.kind.Kind.{Kind}
-use Rattle.db_load.specs.declared.kind.Kind.TheVariants as kind
 use Rattle.db_load.specs.declared.levels.TheConstants.{MOST_LEVELS}
 use Rattle.db_load.specs.declared.rule.Child.{Child}
 use Rattle.db_load.specs.declared.rule.Rule.{Rule}
@@ -16,7 +14,7 @@ use Rattle.db_load.specs.Forms.{has_form, is_parsed}
 use Rattle.db_load.specs.Laws.{Within, whole, inside, Obeys, EachHasRow, EachHasRule, EachValueFormed}
 use Rattle.db_load.specs.Rules.{rules, children}
 use Rattle.db_load.specs.Words.{spelled}
-use Rattle.db_load.proofs.Clean.{Clean, clean, nil_parts, no_fault, child_row, first_below, top_clean}
+use Rattle.db_load.proofs.Clean.{clean, nil_parts, no_fault, child_row, first_below, top_clean}
 
 -- ---- what isn't so of any, isn't so of one
 

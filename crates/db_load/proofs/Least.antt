@@ -1,6 +1,6 @@
 -- A tree is refused with the first of its faults.
 use Rattle.std.specs.Prelude.{◌≡◌, ℕ, zero, suc, Bool, true, false, if◌then◌else◌, List, [], ◌∷◌, slice_get, Option, Some, None}
-use Rattle.std.proofs.Common.{refl, ap, sym, subst, ◌∙◌, arith}
+use Rattle.std.proofs.Common.{refl, ap, subst, ◌∙◌, arith}
 use Rattle.std.proofs.lemmas.Bool.Decides.{nat_tests}
 use Rattle.db_model.specs.declared.fault.Fault.{Fault}
 use Rattle.db_model.specs.LeastFault.{comes_first, earlier, least}
@@ -25,6 +25,7 @@ least_in (g ∷ fs) f e = by (least fs) refl e (λ x. least_in fs f x)
     pick : (b : Bool) (h : Fault) → least fs ≡ Some h → (if b then Some g else Some h) ≡ Some f → (least fs ≡ Some f → (i : ℕ) × (slice_get fs i ≡ Some f)) → (i : ℕ) × (slice_get (g ∷ fs) i ≡ Some f)
     pick true h q e rest = (zero, e)
     pick false h q e rest = let r = rest (q ∙ e) in (suc r.0, r.1)
+
     by : (o : Option Fault) → least fs ≡ o → earlier (Some g) o ≡ Some f → (least fs ≡ Some f → (i : ℕ) × (slice_get fs i ≡ Some f)) → (i : ℕ) × (slice_get (g ∷ fs) i ≡ Some f)
     by None q e rest = (zero, e)
     by (Some h) q e rest = pick (comes_first g h) h q e rest
@@ -56,6 +57,7 @@ least_first (g ∷ fs) f e = by (least fs) refl e (λ m x. least_first fs m x)
     pick : (b : Bool) (m : Fault) → comes_first g m ≡ b → (if b then Some g else Some m) ≡ Some f → IsFirst fs m → IsFirst (g ∷ fs) f
     pick true m t e rest = let is : g ≡ f = cc in subst (IsFirst (g ∷ fs)) is (first_before g m fs t rest)
     pick false m t e rest = let is : m ≡ f = cc in subst (IsFirst (g ∷ fs)) is (first_behind g m fs t rest)
+
     by : (o : Option Fault) → least fs ≡ o → earlier (Some g) o ≡ Some f → ((m : Fault) → least fs ≡ Some m → IsFirst fs m) → IsFirst (g ∷ fs) f
     by None q e rest = let is : g ≡ f = cc in subst (IsFirst (g ∷ fs)) is (first_alone g fs (least_none fs q))
     by (Some m) q e rest = pick (comes_first g m) m refl e (rest m q)

@@ -6,8 +6,8 @@ use Rattle.db_model.specs.declared.fault.DbFail.TheVariants as fail
 use Rattle.db_model.specs.declared.fault.Fault.{Fault}
 use Rattle.db_text.specs.declared.node.Node.{Node}
 use Rattle.db_text.specs.Laws as text
-use Rattle.db_text.specs.Refusal.{IsText, IsRefused}
-use Rattle.db_load.specs.Answer.{Answers, IsJudged}
+use Rattle.db_text.specs.Refusal.{IsText}
+use Rattle.db_load.specs.Answer.{Answers}
 use Rattle.db_load.specs.Faults.{refusal}
 use Rattle.db_load.specs.Laws.{HasAnswer, OneDatabase, ExcludesFault, OneFault}
 use Rattle.db_load.specs.Whole.{database_of}
@@ -36,9 +36,11 @@ same_fault line code line' code' a b e x y = parts (record { line = line; code =
     line_of : Option Fault → ℕ
     line_of None = 0
     line_of (Some f) = f.line
+
     code_of : Option Fault → ℕ
     code_of None = 0
     code_of (Some f) = f.code
+
     parts : (f g : Fault) → Some f ≡ Some g → (f.line ≡ g.line) × (f.code ≡ g.code)
     parts f g h = (ap line_of h, ap code_of h)
 

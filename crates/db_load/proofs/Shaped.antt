@@ -1,7 +1,7 @@
 -- The database that a tree without faults means is shaped.
-use Rattle.std.specs.Prelude.{◌≡◌, ℕ, ◌-◌, ◌&&◌, Bool, true, false, nat_le, if◌then◌else◌, List, [], ◌∷◌, map, length, Option, Some, None}
+use Rattle.std.specs.Prelude.{◌≡◌, ℕ, ◌-◌, Bool, true, false, nat_le, if◌then◌else◌, List, [], ◌∷◌, Option, Some, None}
 use Rattle.std.specs.List.{list_all}
-use Rattle.std.proofs.Common.{refl, ap, sym, subst, ◌∙◌}
+use Rattle.std.proofs.Common.{refl, ap, ◌∙◌}
 use Rattle.std.proofs.lemmas.Bool.{and_parts}
 use Rattle.db_model.specs.declared.database.ElementList.{ElementList}
 use Rattle.db_model.specs.declared.database.HeaderPart.{HeaderPart}
@@ -14,23 +14,19 @@ use Rattle.db_model.specs.Names.{Text}
 use Rattle.db_model.specs.Shape as shape
 use Rattle.db_model.specs.Shape.{is_list, is_list_of, item_is_shaped, column_is_shaped, variable_is_shaped, table_is_shaped, template_is_shaped, sections_are_shaped, sum_is_shaped, block_is_shaped, code_is_shaped, format_is_shaped, protocol_is_shaped, is_shaped}
 use Rattle.db_text.specs.declared.node.Node.{Node, out-Node}
-use Rattle.db_load.specs.declared.kind.Kind.{Kind}
 use Rattle.db_load.specs.declared.kind.Kind.TheVariants as kind
-use Rattle.db_load.specs.declared.kind.ListKind.{ListKind}
 use Rattle.db_load.specs.declared.kind.ListKind.TheVariants as list
 use Rattle.db_load.specs.declared.levels.TheConstants.{MOST_LEVELS}
 use Rattle.db_load.specs.declared.rule.Child.{Child}
-use Rattle.db_load.specs.declared.word.Word.{Word}
 use Rattle.db_load.specs.declared.word.Word.TheVariants as word
-use Rattle.db_load.specs.Faults.{part, miscounts, count_of, names_in, row_of, below, faults, refusal}
-use Rattle.db_load.specs.Meaning.{meant}
+use Rattle.db_load.specs.Faults.{miscounts, count_of, names_in, row_of, faults, refusal}
 use Rattle.db_load.specs.Rules.{in_list, children}
 use Rattle.db_load.specs.Values.{name_by, section_by, filled_by, header_part_by, ty_by}
 use Rattle.db_load.specs.Whole
 use Rattle.db_load.specs.Whole.{of, is, inside, each_of, one_of, put_item, item_of, items_in, list_of, database_of}
 use Rattle.db_load.specs.Words.{spelled}
-use Rattle.db_load.proofs.Clean.{Clean, clean, kind_in, each_good, one_good, each_all, count_each, counted, row_counted, top_clean}
-use Rattle.db_load.proofs.Stands.{list_kind, is_looped, all_in, fine}
+use Rattle.db_load.proofs.Clean.{clean, kind_in, each_good, one_good, each_all, count_each, counted, row_counted, top_clean}
+use Rattle.db_load.proofs.Stands.{fine}
 use Rattle.db_load.proofs.Trees.{Each, each_of_all}
 use Rattle.db_load.proofs.ValueForms.{both, ReadsFormed, name_ok, optional_name_ok, variable_name_ok, section_ok, text_ok, filled_ok, separator_ok, literal_ok, size_ok}
 
@@ -90,16 +86,16 @@ table_good : (left : ℕ) (n : Node) → faults kind.Table left n ≡ [] → tab
 table_good left n h =
     let counts = table_counts (names_in (inside n)) (counted kind.Table (names_in (inside n)) (clean kind.Table left n h).number) in
     both (name_ok (of n word.Name)) (both
-      (ap (is_between 1 MOST_KEYS) (count_each word.Key Whole.key (inside n)) ∙ counts.0) (both
-      (ap (λ c. nat_le c MOST_COLUMNS) (count_each word.Data Whole.column (inside n)) ∙ counts.1) (both
-      (each_all word.Key Whole.key (λ k. is_name k.name) (λ k. name_ok (of k word.Name)) (inside n))
-      (each_all word.Data Whole.column column_is_shaped (λ c. both (name_ok (of c word.Name)) (size_ok (ty_by (of c word.Type)) (of c word.Size))) (inside n)))))
+    (ap (is_between 1 MOST_KEYS) (count_each word.Key Whole.key (inside n)) ∙ counts.0) (both
+    (ap (λ c. nat_le c MOST_COLUMNS) (count_each word.Data Whole.column (inside n)) ∙ counts.1) (both
+    (each_all word.Key Whole.key (λ k. is_name k.name) (λ k. name_ok (of k word.Name)) (inside n))
+    (each_all word.Data Whole.column column_is_shaped (λ c. both (name_ok (of c word.Name)) (size_ok (ty_by (of c word.Type)) (of c word.Size))) (inside n)))))
 
 sections_good : (left : ℕ) (n : Node) → faults kind.SumStruct left n ≡ [] → sections_are_shaped (Whole.sum_struct n) ≡ true
 sections_good left n h =
     both
-      (ap (is_between 1 MOST_SECTIONS) (count_each word.Section Whole.section (inside n)) ∙ section_counts (names_in (inside n)) (counted kind.SumStruct (names_in (inside n)) (clean kind.SumStruct left n h).number))
-      (each_all word.Section Whole.section (λ s. shape.is_section s.name) (λ s. section_ok (of s word.Name)) (inside n))
+    (ap (is_between 1 MOST_SECTIONS) (count_each word.Section Whole.section (inside n)) ∙ section_counts (names_in (inside n)) (counted kind.SumStruct (names_in (inside n)) (clean kind.SumStruct left n h).number))
+    (each_all word.Section Whole.section (λ s. shape.is_section s.name) (λ s. section_ok (of s word.Name)) (inside n))
 
 -- ---- the kinds of what stands in each
 
@@ -189,23 +185,23 @@ module _ (formed : ReadsFormed) where
   code_good left n h =
       let c = clean kind.ExecuteCode left n h in
       both
-        (one_good (children kind.ExecuteCode) word.Before kind.CodeList (left - 1) before_row Nothing (list_of kind.CodeList) (λ (l : ElementList). is_list shape.CodeList l.elements) (λ m q k. code_elements (left - 1) m k) (inside n) (nothing (inside n)) c.inside)
-        (one_good (children kind.ExecuteCode) word.After kind.CodeList (left - 1) after_row Nothing (list_of kind.CodeList) (λ (l : ElementList). is_list shape.CodeList l.elements) (λ m q k. code_elements (left - 1) m k) (inside n) (nothing (inside n)) c.inside)
+      (one_good (children kind.ExecuteCode) word.Before kind.CodeList (left - 1) before_row Nothing (list_of kind.CodeList) (λ (l : ElementList). is_list shape.CodeList l.elements) (λ m q k. code_elements (left - 1) m k) (inside n) (nothing (inside n)) c.inside)
+      (one_good (children kind.ExecuteCode) word.After kind.CodeList (left - 1) after_row Nothing (list_of kind.CodeList) (λ (l : ElementList). is_list shape.CodeList l.elements) (λ m q k. code_elements (left - 1) m k) (inside n) (nothing (inside n)) c.inside)
 
   format_good : (left : ℕ) (n : Node) → faults kind.Format left n ≡ [] → format_is_shaped (Whole.format n) ≡ true
   format_good left n h =
       let c = clean kind.Format left n h in
       both
-        (one_good (children kind.Format) word.Fields kind.Fields (left - 1) fields_row Nothing (list_of kind.Fields) (λ (l : ElementList). is_list shape.FieldList l.elements) (λ m q k. field_elements (left - 1) m k) (inside n) (nothing (inside n)) c.inside)
-        (each_good (children kind.Format) word.Block kind.NamedBlock (left - 1) block_row Nothing Whole.named_block block_is_shaped (λ m q k. block_good (left - 1) m k) (inside n) (nothing (inside n)) c.inside)
+      (one_good (children kind.Format) word.Fields kind.Fields (left - 1) fields_row Nothing (list_of kind.Fields) (λ (l : ElementList). is_list shape.FieldList l.elements) (λ m q k. field_elements (left - 1) m k) (inside n) (nothing (inside n)) c.inside)
+      (each_good (children kind.Format) word.Block kind.NamedBlock (left - 1) block_row Nothing Whole.named_block block_is_shaped (λ m q k. block_good (left - 1) m k) (inside n) (nothing (inside n)) c.inside)
 
   protocol_good : (left : ℕ) (n : Node) → faults kind.Protocol left n ≡ [] → protocol_is_shaped (Whole.protocol n) ≡ true
   protocol_good left n h =
       let c = clean kind.Protocol left n h in
       both (name_ok (of n word.Name)) (both (text_ok (of n word.LongName)) (both (optional_name_ok (of n word.ShowSum)) (both
-        (one_good (children kind.Protocol) word.ExecuteCode kind.ExecuteCode (left - 1) code_row Nothing Whole.execute_code code_is_shaped (λ m q k. code_good (left - 1) m k) (inside n) (nothing (inside n)) c.inside) (both
-        (one_good (children kind.Protocol) word.Format kind.Format (left - 1) format_row Nothing Whole.format format_is_shaped (λ m q k. format_good (left - 1) m k) (inside n) (nothing (inside n)) c.inside)
-        (one_good (children kind.Protocol) word.Encapsulation kind.Encapsulation (left - 1) encapsulation_row Nothing (list_of kind.Encapsulation) (λ (l : ElementList). is_list shape.EncapList l.elements) (λ m q k. encap_elements (left - 1) m k) (inside n) (nothing (inside n)) c.inside)))))
+      (one_good (children kind.Protocol) word.ExecuteCode kind.ExecuteCode (left - 1) code_row Nothing Whole.execute_code code_is_shaped (λ m q k. code_good (left - 1) m k) (inside n) (nothing (inside n)) c.inside) (both
+      (one_good (children kind.Protocol) word.Format kind.Format (left - 1) format_row Nothing Whole.format format_is_shaped (λ m q k. format_good (left - 1) m k) (inside n) (nothing (inside n)) c.inside)
+      (one_good (children kind.Protocol) word.Encapsulation kind.Encapsulation (left - 1) encapsulation_row Nothing (list_of kind.Encapsulation) (λ (l : ElementList). is_list shape.EncapList l.elements) (λ m q k. encap_elements (left - 1) m k) (inside n) (nothing (inside n)) c.inside)))))
 
   -- ---- the whole
 
@@ -214,9 +210,9 @@ module _ (formed : ReadsFormed) where
   shaped n h =
       let c = clean kind.Netpdl MOST_LEVELS n (top_clean n h) in
       both (both (text_ok (of n word.Name)) (both (text_ok (of n word.Version)) (both (text_ok (of n word.Creator)) (text_ok (of n word.Date))))) (both
-        (each_all word.Variable Whole.variable variable_is_shaped variable_good (inside n)) (both
-        (each_good (children kind.Netpdl) word.LookupTable kind.Table (MOST_LEVELS - 1) table_row Nothing Whole.table table_is_shaped (λ m q k. table_good (MOST_LEVELS - 1) m k) (inside n) (nothing (inside n)) c.inside) (both
-        (each_all word.ShowTemplate Whole.show_template template_is_shaped template_good (inside n)) (both
-        (one_good (children kind.Netpdl) word.ShowSumStruct kind.SumStruct (MOST_LEVELS - 1) sum_struct_row Nothing Whole.sum_struct sections_are_shaped (λ m q k. sections_good (MOST_LEVELS - 1) m k) (inside n) (nothing (inside n)) c.inside) (both
-        (each_all word.ShowSumTemplate Whole.sum_template sum_is_shaped sum_good (inside n))
-        (each_good (children kind.Netpdl) word.Protocol kind.Protocol (MOST_LEVELS - 1) protocol_row Nothing Whole.protocol protocol_is_shaped (λ m q k. protocol_good (MOST_LEVELS - 1) m k) (inside n) (nothing (inside n)) c.inside))))))
+      (each_all word.Variable Whole.variable variable_is_shaped variable_good (inside n)) (both
+      (each_good (children kind.Netpdl) word.LookupTable kind.Table (MOST_LEVELS - 1) table_row Nothing Whole.table table_is_shaped (λ m q k. table_good (MOST_LEVELS - 1) m k) (inside n) (nothing (inside n)) c.inside) (both
+      (each_all word.ShowTemplate Whole.show_template template_is_shaped template_good (inside n)) (both
+      (one_good (children kind.Netpdl) word.ShowSumStruct kind.SumStruct (MOST_LEVELS - 1) sum_struct_row Nothing Whole.sum_struct sections_are_shaped (λ m q k. sections_good (MOST_LEVELS - 1) m k) (inside n) (nothing (inside n)) c.inside) (both
+      (each_all word.ShowSumTemplate Whole.sum_template sum_is_shaped sum_good (inside n))
+      (each_good (children kind.Netpdl) word.Protocol kind.Protocol (MOST_LEVELS - 1) protocol_row Nothing Whole.protocol protocol_is_shaped (λ m q k. protocol_good (MOST_LEVELS - 1) m k) (inside n) (nothing (inside n)) c.inside))))))

@@ -25,10 +25,9 @@ use Rattle.db_load.specs.declared.rule.Child.{Child}
 use Rattle.db_load.specs.declared.word.Word.{Word}
 use Rattle.db_load.specs.declared.word.Word.TheVariants as word
 use Rattle.db_load.specs.Faults.{part, is_astray, row_of, below, faults}
-use Rattle.db_load.specs.Meaning.{Meant, meant, layer, at, placed, list_by, named, first_named, form_by, case_by, branch_by, key_by, value_by, condition, element_by}
+use Rattle.db_load.specs.Meaning.{Meant, meant, layer, at, placed, list_by, named, first_named, case_by, branch_by, key_by, value_by, condition, element_by}
 use Rattle.db_load.specs.Rules.{in_list, in_switch, in_if, children}
-use Rattle.db_load.specs.Values.{name_by, optional_name_by, variable_name_by, text_by, optional_number_by, mask_by, expr_by, validity_by, loop_kind_by}
-use Rattle.db_load.specs.Whole.{each_of}
+use Rattle.db_load.specs.Values.{name_by, text_by, expr_by, loop_kind_by}
 use Rattle.db_load.specs.Words.{spelled}
 use Rattle.db_load.proofs.Clean.{Clean, clean, kind_in, child_row, first_below, each_good, one_good, each_all, named_each, first_one}
 use Rattle.db_load.proofs.Means.{meant_name, meant_element, meant_body}
@@ -269,36 +268,36 @@ module _ (formed : ReadsFormed) where
       let p = and_parts (is_field_list (list_kind l)) (same_list l m) h in
       let e = list_is l m p.1 in
       subst (λ x. stands_in x (element_by (layer n) (kind.Block m)) ≡ true) (sym e)
-        (block_stands m (out-Node n).line (name_by (at (out-Node n).attributes word.Name)) (text_by (at (out-Node n).attributes word.LongName)) (list_by (children (kind.Block m)) (map meant (out-Node n).children))
-          (subst (λ x. is_field_list (list_kind x) ≡ true) e p.0)
-          (name_ok (at (out-Node n).attributes word.Name)) (text_ok (at (out-Node n).attributes word.LongName))
-          (body_fine (kind.Block m) m left n (block_list m) q c))
+      (block_stands m (out-Node n).line (name_by (at (out-Node n).attributes word.Name)) (text_by (at (out-Node n).attributes word.LongName)) (list_by (children (kind.Block m)) (map meant (out-Node n).children))
+      (subst (λ x. is_field_list (list_kind x) ≡ true) e p.0)
+      (name_ok (at (out-Node n).attributes word.Name)) (text_ok (at (out-Node n).attributes word.LongName))
+      (body_fine (kind.Block m) m left n (block_list m) q c))
   by_kind kind.IncludeBlock l left n q c h = both h (name_ok (at (out-Node n).attributes word.Name))
   by_kind kind.Loop l left n q c h =
       loop_stands l (out-Node n).line (loop_kind_by (at (out-Node n).attributes word.Type)) (expr_by (at (out-Node n).attributes word.Expr)) (list_by (children kind.Loop) (map meant (out-Node n).children))
-        h (expr_ok formed (at (out-Node n).attributes word.Expr)) (body_fine kind.Loop list.Looped left n loop_list q c)
+      h (expr_ok formed (at (out-Node n).attributes word.Expr)) (body_fine kind.Loop list.Looped left n loop_list q c)
   by_kind (kind.LoopCtrl m) l left n q c h =
       let p = and_parts (is_field_list (list_kind l)) (same_list l m) h in
       both p.0 (subst (λ x. is_looped x ≡ true) (sym (list_is l m p.1)) (in_a_loop m c.astray))
   by_kind (kind.Switch m) l left n q c h =
       let inside = subst (λ rows. below rows (left - 1) (map part (out-Node n).children) ≡ []) (switch_list m) c.inside in
       subst (λ x. stands_in x (element_by (layer n) (kind.Switch m)) ≡ true) (sym (list_is l m h))
-        (switch_stands m (out-Node n).line (expr_by (at (out-Node n).attributes word.Expr)) (named word.Case (case_by m) (map meant (out-Node n).children)) (first_named word.Default (branch_by m) (map meant (out-Node n).children))
-          (expr_ok formed (at (out-Node n).attributes word.Expr))
-          (cases_fine m (left - 1) (out-Node n).children q inside)
-          (branch_fine (in_switch m) word.Default m (left - 1) (out-Node n).children (default_row m) q inside))
+      (switch_stands m (out-Node n).line (expr_by (at (out-Node n).attributes word.Expr)) (named word.Case (case_by m) (map meant (out-Node n).children)) (first_named word.Default (branch_by m) (map meant (out-Node n).children))
+      (expr_ok formed (at (out-Node n).attributes word.Expr))
+      (cases_fine m (left - 1) (out-Node n).children q inside)
+      (branch_fine (in_switch m) word.Default m (left - 1) (out-Node n).children (default_row m) q inside))
   by_kind (kind.If m) l left n q c h =
       let inside = subst (λ rows. below rows (left - 1) (map part (out-Node n).children) ≡ []) (if_list m) c.inside in
       subst (λ x. stands_in x (element_by (layer n) (kind.If m)) ≡ true) (sym (list_is l m h))
-        (condition_stands m (out-Node n).line (expr_by (at (out-Node n).attributes word.Expr)) (first_named word.IfTrue (branch_by m) (map meant (out-Node n).children)) (first_named word.IfFalse (branch_by m) (map meant (out-Node n).children))
-          (expr_ok formed (at (out-Node n).attributes word.Expr))
-          (branch_fine (in_if m) word.IfTrue m (left - 1) (out-Node n).children (true_row m) q inside)
-          (branch_fine (in_if m) word.IfFalse m (left - 1) (out-Node n).children (false_row m) q inside))
+      (condition_stands m (out-Node n).line (expr_by (at (out-Node n).attributes word.Expr)) (first_named word.IfTrue (branch_by m) (map meant (out-Node n).children)) (first_named word.IfFalse (branch_by m) (map meant (out-Node n).children))
+      (expr_ok formed (at (out-Node n).attributes word.Expr))
+      (branch_fine (in_if m) word.IfTrue m (left - 1) (out-Node n).children (true_row m) q inside)
+      (branch_fine (in_if m) word.IfFalse m (left - 1) (out-Node n).children (false_row m) q inside))
   by_kind kind.Assign l left n q c h = both h (both (variable_name_ok (at (out-Node n).attributes word.Name)) (expr_ok formed (at (out-Node n).attributes word.Value)))
   by_kind kind.Update l left n q c h =
       both h (both (name_ok (at (out-Node n).attributes word.Table)) (both
-        (both (number_ok (at (out-Node n).attributes word.KeepTime)) (number_ok (at (out-Node n).attributes word.HitTime)))
-        (both (keys_ok formed (out-Node n).children) (values_ok formed (out-Node n).children))))
+      (both (number_ok (at (out-Node n).attributes word.KeepTime)) (number_ok (at (out-Node n).attributes word.HitTime)))
+      (both (keys_ok formed (out-Node n).children) (values_ok formed (out-Node n).children))))
   by_kind kind.NextProto l left n q c h = both h (expr_ok formed (at (out-Node n).attributes word.Proto))
   by_kind k l left n q c h = (cc)
 

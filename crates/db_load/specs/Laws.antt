@@ -1,5 +1,5 @@
 -- The laws of the loader: what holds of every database that is loaded, of every element of a tree without faults, and of the answers.
-use Rattle.std.specs.Prelude.{◌≡◌, ◌↔◌, ◌⊎◌, ℕ, Bool, true, false, List, [], slice_get, Option, Some, None, Ok, Err}
+use Rattle.std.specs.Prelude.{◌≡◌, ◌↔◌, ◌⊎◌, ℕ, true, false, List, [], slice_get, Option, Some, None, Ok, Err}
 use Rattle.db_model.specs.declared.database.Database.{Database}
 use Rattle.db_model.specs.declared.fault.DbFail.TheVariants as fail
 use Rattle.db_model.specs.declared.fault.Fault.{Fault}

@@ -1,18 +1,18 @@
 //! A database as lines, one for each declaration and each element, so that all of it is compared at once. `end`
 //! stands behind what an element holds, `-` for what isn't there, and texts stand in brackets.
 
+use crate::elements::elements;
 use db_model::{
-    Bytes, ColumnDecl, Database, ElementList, ExecuteCode, Format, HeaderPart, Literal, Name,
+    Bytes, ColumnDecl, Database, ElementList, ExecuteCode, Expr, Format, HeaderPart, Literal, Name,
     NamedBlock, NoMemory, Protocol, ShowTemplate, ShowType, SumItem, SumTemplate, TableDecl, Ty,
     VarDecl,
 };
-use crate::elements::elements;
 use expr_text::print_expr;
-use db_model::Expr;
 use sqlite_items::Items;
 use std::alloc::Global;
 
 /// Lines that grow.
+#[derive(Drop)]
 pub struct Outline {
     alloc: Global,
     text: Vec<u8>,
@@ -100,7 +100,11 @@ fn variable(out: &mut Outline, v: &VarDecl) -> Result<(), NoMemory> {
     out.word(v.name.as_slice())?;
     out.word(ty_word(v.ty))?;
     literal(out, &v.value)?;
-    out.word(if v.validity.is_some() { b"packet" } else { b"-" })?;
+    out.word(if v.validity.is_some() {
+        b"packet"
+    } else {
+        b"-"
+    })?;
     out.end_line()
 }
 
@@ -270,7 +274,7 @@ fn declarations(out: &mut Outline, db: &Database) -> Result<(), NoMemory> {
 }
 
 /// The lines of a database.
-pub fn outline(alloc: Global, db: &Database) -> Result<Vec<u8>, NoMemory> {
+pub fn lines_of(alloc: Global, db: &Database) -> Result<Vec<u8>, NoMemory> {
     let mut out = Outline {
         alloc,
         text: Vec::new(alloc),

@@ -2,7 +2,7 @@ use crate::databases::{
     CIRCLE, CUT, EMPTY, ENTRIES, FRAME, LONE_BIT, REMAINING, SESSIONS, UNKNOWN,
 };
 use crate::load::{Fault, has_fault};
-use crate::outline::outline;
+use crate::outline::lines_of;
 use db_load::load_database;
 use db_model::DbFail;
 use std::alloc::Global;
@@ -325,7 +325,7 @@ end
 /// Whether a database has exactly these lines.
 fn has_lines(alloc: Global, text: &[u8], lines: &[u8]) -> Result<bool, DbFail> {
     let db = load_database(alloc, text)?;
-    let found = outline(alloc, &db)?;
+    let found = lines_of(alloc, &db)?;
     Ok(found.as_slice() == lines)
 }
 
