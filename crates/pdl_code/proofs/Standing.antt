@@ -1,6 +1,6 @@
 -- Operations that stand in the code at a place.
 use Rattle.std.specs.Prelude.{◌≡◌, ℕ, ◌+◌, ◌<◌, List, [], ◌∷◌, ◌++◌, length, slice_get, Some}
-use Rattle.std.proofs.Common.{refl, sym, ap, subst, ◌∙◌, arith, append_assoc, length-append}
+use Rattle.std.proofs.Common.{refl, sym, ap, subst, ◌∙◌, arith, append_assoc, append-nil, length-append}
 use Rattle.std.proofs.Math.Seq.{get_or-append_seam}
 use Rattle.std.proofs.lemmas.Option.{slice_get-get_or}
 use Rattle.pdl_code.specs.declared.code.Op.{Op}
@@ -33,3 +33,10 @@ has_all (o ∷ os) before after =
     let rest = has_all os (before ++ o ∷ []) after in
     let rest' = subst (λ l. HasAt l (length (before ++ o ∷ [])) os) (append_assoc before (o ∷ []) (os ++ after)) rest in
     (here, subst (λ m. HasAt (before ++ o ∷ (os ++ after)) m os) n rest')
+
+-- what stands first, and what stands last
+pub has_first : (os after : List Op) → HasAt (os ++ after) 0 os
+has_first os after = has_all os [] after
+
+pub has_last : (os before : List Op) → HasAt (before ++ os) (length before) os
+has_last os before = subst (λ l. HasAt (before ++ l) (length before) os) (append-nil os) (has_all os before [])

@@ -1,15 +1,21 @@
 //! The code of a database: for each protocol one flat list of operations with jumps, made once before packets are
 //! decoded. The contract of `compile` says that from the first operation of a protocol the operations do exactly
-//! what the definition of decoding says of the protocol's elements. `specs/Does.antt` has that relation, and says
-//! of each operation what it does.
+//! what the definition of decoding says of the protocol's elements (`specs/Does.antt`).
 #![tactic(auto)]
 
 mod code;
+mod compile;
+mod copy;
+mod emit;
+mod leaf;
+mod place;
 mod sound;
+mod switch;
 
 pub use code::BlockStart;
 pub use code::Code;
 pub use code::Op;
 pub use code::ProtoCode;
+pub use compile::compile;
 pub use sound::Ranges;
 pub use sound::SoundKind;
