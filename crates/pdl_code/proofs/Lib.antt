@@ -6,3 +6,6 @@ pub mod Choices
 pub mod Trees
 pub mod Named
 pub mod Compiled
+pub mod Elements
+pub mod Written
+pub mod Walks
