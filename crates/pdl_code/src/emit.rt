@@ -2,16 +2,16 @@
 //! what stands before the next is given. After want of memory the operations are of no use. The functions go as
 //! deep as the elements nest.
 
-ghost use Rattle.std.specs.Prelude.{◌≡◌, ◌∷◌, ◌+◌, [], IfOk};
+ghost use Rattle.std.specs.Prelude.{◌≡◌, ◌∷◌, ◌+◌, [], map, IfOk};
 ghost use Rattle.db_model.specs.Numbering.{plus, a_block, counts_of, counts_in};
-ghost use Rattle.pdl_code.specs.Coding.{ended, around, if_code, code_of, codes_in};
-ghost use Rattle.pdl_code.specs.Parts.{Wrote, counts_in_other, codes_in_other, IsInLimits, AreInLimits, OtherInLimits};
+ghost use Rattle.pdl_code.specs.Coding.{ended, around, if_code, switch_code, code_of, codes_in};
+ghost use Rattle.pdl_code.specs.Parts.{Wrote, WroteBodies, counts, case_range, counts_in_cases, counts_in_other, codes_in_cases, codes_in_other, IsInLimits, AreInLimits, CasesInLimits, OtherInLimits};
 ghost use Rattle.pdl_code.specs.declared.code.Op.TheVariants as op;
 
 use crate::place::Place;
-use crate::switch::switch;
+use crate::switch::{Bodies, ranges, write_jumps};
 use crate::{Op, copy, leaf};
-use db_model::{Branch, CheckedDb, Element, Expr, LoopKind, NoMemory};
+use db_model::{Branch, Case, CheckedDb, Element, Expr, LoopKind, NoMemory};
 use sqlite_items::Items;
 use std::alloc::Global;
 
@@ -225,9 +225,68 @@ fn condition(
     Ok(to)
 }
 
+#[cycle(emit)]
+fn switch(
+    alloc: Global,
+    db: &CheckedDb,
+    protocol: usize,
+    value: &Expr,
+    cases: &[Case],
+    otherwise: &Option<Branch>,
+    at: Place,
+    ops: &mut Items<Op>,
+) -> Result<Place, NoMemory>
+    requires cases { CasesInLimits cases.now }
+    requires otherwise { OtherInLimits otherwise.now }
+    ensures { IfOk result (λ to. Wrote (plus (counts_in_cases cases.now) (counts_in_other otherwise.now)) (λ n. switch_code value.now (map case_range cases.now) (codes_in_cases db.now protocol cases.now n) (codes_in_other db.now protocol otherwise.now (plus n (counts_in_cases cases.now)))) ops.old ops.new at to) }
+{
+    let start = ops.len();
+    ops.push(Op::End)?;
+    let bodies = bodies(alloc, db, protocol, cases, at, ops)?;
+    let before_other = ops.len();
+    let to = other(alloc, db, protocol, otherwise, bodies.to, ops)?;
+    let value = copy::expr(alloc, value)?;
+    let ranges = ranges(alloc, cases)?;
+    write_jumps(ops, bodies.ends.as_slice());
+    let op = Op::Switch {
+        value,
+        ranges,
+        targets: bodies.begins,
+        otherwise: before_other - start - 1,
+    };
+    ops.set(start, op);
+    Ok(to)
+}
+
+/// The bodies of the cases, each with the room for a jump behind it.
+#[cycle(emit)]
+fn bodies(
+    alloc: Global,
+    db: &CheckedDb,
+    protocol: usize,
+    cases: &[Case],
+    at: Place,
+    ops: &mut Items<Op>,
+) -> Result<Bodies, NoMemory>
+    requires { CasesInLimits cases.now }
+    ensures { IfOk result (λ b. WroteBodies (counts_in_cases cases.now) (codes_in_cases db.now protocol cases.now (counts at)) ops.old ops.new at b) }
+{
+    let first = ops.len();
+    let mut begins = Items::new(alloc);
+    let mut ends = Items::new(alloc);
+    let mut to = at;
+    for case in cases {
+        begins.push(ops.len() - first)?;
+        to = list(alloc, db, protocol, case.body.as_slice(), to, ops)?;
+        ends.push(ops.len())?;
+        ops.push(Op::End)?;
+    }
+    Ok(Bodies { begins, ends, to })
+}
+
 /// The default of a switch, or what a condition does otherwise.
 #[cycle(emit)]
-pub fn other(
+fn other(
     alloc: Global,
     db: &CheckedDb,
     protocol: usize,
