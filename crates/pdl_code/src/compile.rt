@@ -18,8 +18,9 @@ use std::alloc::Global;
 pub fn compile(alloc: Global, db: &CheckedDb) -> Result<Code, NoMemory>
     ensures { IfOk result (λ code. IsCodeOf db.now code) }
 {
+    let declared = db.database().protocols.as_slice();
     let mut protocols = Items::new(alloc);
-    for (number, protocol) in db.database().protocols.as_slice().iter().enumerate() {
+    for (number, protocol) in declared.iter().enumerate() {
         protocols.push(of_protocol(alloc, db, number, protocol)?)?;
     }
     Ok(Code { protocols })
@@ -73,14 +74,14 @@ fn named(
     ensures { IfOk result (λ s. WroteBlocks (block_codes db.now number blocks.now (counts at)) (block_starts db.now number (length ops.old) blocks.now (counts at)) ops.old ops.new s) }
 {
     let mut starts = Items::new(alloc);
-    let mut at = at;
+    let mut to = at;
     for block in blocks {
         starts.push(BlockStart {
-            number: at.blocks,
+            number: to.blocks,
             at: ops.len(),
         })?;
-        let inside = at.behind_block()?;
-        at = list(alloc, db, number, block.body.as_slice(), inside, ops)?;
+        let inside = to.behind_block()?;
+        to = list(alloc, db, number, block.body.as_slice(), inside, ops)?;
         ops.push(Op::End)?;
     }
     Ok(starts)

@@ -101,7 +101,7 @@ pub fn include(
 {
     let block = db.block_at(protocol, name.as_slice());
     if block < block_count(db, protocol) {
-        ops.push(Op::Include { block })?;
+        return put(Op::Include { block }, at, ops);
     }
     Ok(at)
 }
