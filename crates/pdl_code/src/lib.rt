@@ -4,7 +4,7 @@
 #![tactic(auto)]
 
 mod code;
-mod compile;
+mod protocols;
 mod copy;
 mod emit;
 mod leaf;
@@ -16,6 +16,6 @@ pub use code::BlockStart;
 pub use code::Code;
 pub use code::Op;
 pub use code::ProtoCode;
-pub use compile::compile;
+pub use protocols::compile;
 pub use sound::Ranges;
 pub use sound::SoundKind;

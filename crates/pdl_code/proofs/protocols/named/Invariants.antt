@@ -1,7 +1,7 @@
 use Rattle.std.proofs.Common.{◌≡◌, ◌++◌, drop, length}
 use Rattle.pdl_code.specs.Coding.{block_codes, block_starts}
 use Rattle.pdl_code.specs.Parts.{counts, BlocksInLimits}
-use Rattle.pdl_code.proofs.compile.named.Given as goal
+use Rattle.pdl_code.proofs.protocols.named.Given as goal
 
 abbrev pub invariant-loop-block : goal.invariant-loop-block
 invariant-loop-block l = record {
