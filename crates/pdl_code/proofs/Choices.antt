@@ -100,8 +100,8 @@ module _ (db : Database) (fields : List Text) (code : ProtoCode) where
         at_place db fields code (start + (if holds p v then from else to)) (start + target (range_of c ∷ map range_of cs) (from ∷ begins (from + length b + 1) (case_codes cs next_at)) otherwise v) (choose v (p ∷ ps) q at then go r) (ap (λ n. start + n) (sym goes))
         (either (holds p v) start from to (each p.body at) (choose v ps q (plus at (total p.body))) r (at_place db fields code place (start + from) (each p.body at then go r) f first) second')
 
-  pub a_switch : (e : Expr) (cs : List (CaseOf Coded)) (ps : List (CaseOf Part)) (other : Option (BranchOf Coded)) (q : Option (BranchOf Part)) → CasesDo cs ps → OtherDoes other q → (at : Counts) → Piece db fields code (switch_code e (map range_of cs) (case_codes cs at) (other_codes other (behind_cases cs at))) (evaluated (number db fields e) (λ v. choose v ps q at))
-  a_switch e cs ps other q x y at =
+  pub one_switch : (e : Expr) (cs : List (CaseOf Coded)) (ps : List (CaseOf Part)) (other : Option (BranchOf Coded)) (q : Option (BranchOf Part)) → CasesDo cs ps → OtherDoes other q → (at : Counts) → Piece db fields code (switch_code e (map range_of cs) (case_codes cs at) (other_codes other (behind_cases cs at))) (evaluated (number db fields e) (λ v. choose v ps q at))
+  one_switch e cs ps other q x y at =
       let last : Ops = other_codes other (behind_cases cs at) in
       let all : Ops = bodies (case_codes cs at) (length last) in
       record { piece = λ pc r h d.

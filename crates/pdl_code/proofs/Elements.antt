@@ -1,5 +1,5 @@
--- An element by its parts: its counts, its operations, and the limits of its numbers.
-use Rattle.std.specs.Prelude.{◌≡◌, ℕ, ◌+◌, Bool, true, false, nat_lt, List, [], ◌∷◌, ◌++◌, map, Option, Some, None}
+-- An element by its parts: its counts and its operations.
+use Rattle.std.specs.Prelude.{◌≡◌, ℕ, ◌+◌, List, [], ◌∷◌, ◌++◌, map, Option, Some, None}
 use Rattle.std.specs.Option.{option_map}
 use Rattle.std.proofs.Common.{refl, sym, ap, subst, ◌∙◌, arith}
 use Rattle.db_model.specs.declared.database.Database.{Database}
@@ -15,16 +15,12 @@ use Rattle.db_model.specs.declared.element.UpdateValue.{UpdateValue}
 use Rattle.db_model.specs.declared.entry.Validity.{Validity}
 use Rattle.db_model.specs.declared.expression.Expr.{Expr}
 use Rattle.db_model.specs.Folds.{CaseOf, BranchOf, Noted}
-use Rattle.db_model.specs.Lines.{Lines, joined, over, over_option, at_line, inside, lines_of}
 use Rattle.db_model.specs.Names.{Text, variable_at, table_at}
-use Rattle.db_model.specs.NumberFaults.{own_43, form_is_outside}
 use Rattle.db_model.specs.Numbering.{Counts, none, plus, a_field, a_block, all_counts, case_counts, branch_counts, counts_step, counts_of, counts_in}
-use Rattle.db_model.proofs.Accepted.{append_front, append_back}
 use Rattle.db_model.proofs.Layers.{fold_block, fold_loop, fold_switch, fold_if, fold_case, fold_branch, noted_block, noted_loop, noted_switch, noted_if, noted_case, noted_branch}
-use Rattle.db_laws.proofs.Includes.{line_none}
 use Rattle.pdl_code.specs.declared.code.Op.TheVariants.{Assign, Update, NextProto, Leave, Block, Loop}
-use Rattle.pdl_code.specs.Coding.{Ops, all_in, codes, other_codes, around, if_code, switch_code, range_of, case_codes, behind_cases, field_op, include_of, coded, code_of, coded_parts, codes_in}
-use Rattle.pdl_code.specs.Parts.{case_range, counts_in_cases, counts_in_other, codes_in_cases, codes_in_other, IsInLimits, AreInLimits, CasesInLimits, OtherInLimits}
+use Rattle.pdl_code.specs.Coding.{Ops, all_in, codes, other_codes, around, if_code, switch_code, range_of, case_codes, behind_cases, field_code, include_of, coded, code_of, coded_parts, codes_in}
+use Rattle.pdl_code.specs.Parts.{case_range, counts_in_cases, counts_in_other, codes_in_cases, codes_in_other}
 
 pub plus_none : (a : Counts) → plus a none ≡ a
 plus_none a = let f : a.fields + 0 ≡ a.fields = omega arith in let b : a.blocks + 0 ≡ a.blocks = omega arith in λ i. record { fields = f i; blocks = b i }
@@ -97,7 +93,7 @@ module _ (db : Database) (q : ℕ) where
   all_counted [] = refl
   all_counted (x ∷ xs) = ap (λ n. plus (counts_of x) n) (all_counted xs)
 
-  pub code_field : (line : ℕ) (name : Text) (f : FieldForm) (longname : Option (List ℕ)) (show : Option Text) → code_of db q (element.Field line name f longname show) ≡ (λ at. field_op f at.fields ∷ [])
+  pub code_field : (line : ℕ) (name : Text) (f : FieldForm) (longname : Option (List ℕ)) (show : Option Text) → code_of db q (element.Field line name f longname show) ≡ (λ at. field_code f at.fields)
   unfolding code_of
   code_field line name f longname show = refl
 
@@ -166,48 +162,3 @@ module _ (db : Database) (q : ℕ) where
   pub code_next : (line : ℕ) (proto : Expr) → code_of db q (element.NextProto line proto) ≡ (λ at. NextProto proto ∷ [])
   unfolding code_of
   code_next line proto = refl
-
--- ---- limits
-
--- what stands wrong in an element of these parts
-of_parts : (x y : Element) (own within : Lines) → x ≡ y → lines_of own_43 y ≡ own ++ within → IsInLimits x → within ≡ []
-of_parts x y own within e f h = append_back own within (sym (ap (lines_of own_43) e ∙ f) ∙ h)
-
-pub limits_field : (x : Element) (line : ℕ) (name : Text) (f : FieldForm) (longname : Option (List ℕ)) (show : Option Text) → x ≡ element.Field line name f longname show → IsInLimits x → form_is_outside f ≡ false
-limits_field x line name f longname show e h = line_none line (form_is_outside f) (append_front (at_line line (form_is_outside f)) [] (sym (ap (lines_of own_43) e) ∙ h))
-
-pub limits_block : (x : Element) (line : ℕ) (name : Text) (longname : Option (List ℕ)) (body : List Element) → x ≡ element.Block line name longname body → IsInLimits x → AreInLimits body
-limits_block x line name longname body e h = of_parts x (element.Block line name longname body) [] (over (lines_of own_43) body) e (fold_block Lines (λ l. own_43 l ++ inside l) line name longname body) h
-
-pub limits_loop : (x : Element) (line : ℕ) (kind : LoopKind) (value : Expr) (body : List Element) → x ≡ element.Loop line kind value body → IsInLimits x → AreInLimits body
-limits_loop x line kind value body e h = of_parts x (element.Loop line kind value body) [] (over (lines_of own_43) body) e (fold_loop Lines (λ l. own_43 l ++ inside l) line kind value body) h
-
-cases_lines : (cs : List Case) → over (λ (c : CaseOf Lines). joined c.body) (map (fold_case Lines (λ l. own_43 l ++ inside l)) cs) ≡ over (λ (c : Case). over (lines_of own_43) c.body) cs
-cases_lines [] = refl
-cases_lines (c ∷ cs) = ap (λ l. over (lines_of own_43) c.body ++ l) (cases_lines cs)
-
-other_lines : (b : Option Branch) → over_option (λ (b : BranchOf Lines). joined b.body) (option_map (fold_branch Lines (λ l. own_43 l ++ inside l)) b) ≡ over_option (λ (b : Branch). over (lines_of own_43) b.body) b
-other_lines None = refl
-other_lines (Some b) = refl
-
-switch_lines : (x : Element) (line : ℕ) (value : Expr) (cs : List Case) (other : Option Branch) → x ≡ element.Switch line value cs other → IsInLimits x → over (λ (c : Case). over (lines_of own_43) c.body) cs ++ over_option (λ (b : Branch). over (lines_of own_43) b.body) other ≡ []
-switch_lines x line value cs other e h =
-    of_parts x (element.Switch line value cs other) (over (λ (c : CaseOf Lines). at_line c.line (nat_lt c.maxvalue c.value)) (map (fold_case Lines (λ l. own_43 l ++ inside l)) cs)) (over (λ (c : Case). over (lines_of own_43) c.body) cs ++ over_option (λ (b : Branch). over (lines_of own_43) b.body) other) e
-    (fold_switch Lines (λ l. own_43 l ++ inside l) line value cs other ∙ (λ i. over (λ (c : CaseOf Lines). at_line c.line (nat_lt c.maxvalue c.value)) (map (fold_case Lines (λ l. own_43 l ++ inside l)) cs) ++ (cases_lines cs i ++ other_lines other i))) h
-
-pub limits_cases : (x : Element) (line : ℕ) (value : Expr) (cs : List Case) (other : Option Branch) → x ≡ element.Switch line value cs other → IsInLimits x → CasesInLimits cs
-limits_cases x line value cs other e h = append_front (over (λ (c : Case). over (lines_of own_43) c.body) cs) (over_option (λ (b : Branch). over (lines_of own_43) b.body) other) (switch_lines x line value cs other e h)
-
-pub limits_default : (x : Element) (line : ℕ) (value : Expr) (cs : List Case) (other : Option Branch) → x ≡ element.Switch line value cs other → IsInLimits x → OtherInLimits other
-limits_default x line value cs other e h = append_back (over (λ (c : Case). over (lines_of own_43) c.body) cs) (over_option (λ (b : Branch). over (lines_of own_43) b.body) other) (switch_lines x line value cs other e h)
-
-if_lines : (x : Element) (line : ℕ) (value : Expr) (true_line : ℕ) (so : List Element) (other : Option Branch) → x ≡ element.If line value true_line so other → IsInLimits x → over (lines_of own_43) so ++ over_option (λ (b : Branch). over (lines_of own_43) b.body) other ≡ []
-if_lines x line value true_line so other e h =
-    of_parts x (element.If line value true_line so other) [] (over (lines_of own_43) so ++ over_option (λ (b : Branch). over (lines_of own_43) b.body) other) e
-    (fold_if Lines (λ l. own_43 l ++ inside l) line value true_line so other ∙ ap (λ l. over (lines_of own_43) so ++ l) (other_lines other)) h
-
-pub limits_so : (x : Element) (line : ℕ) (value : Expr) (true_line : ℕ) (so : List Element) (other : Option Branch) → x ≡ element.If line value true_line so other → IsInLimits x → AreInLimits so
-limits_so x line value true_line so other e h = append_front (over (lines_of own_43) so) (over_option (λ (b : Branch). over (lines_of own_43) b.body) other) (if_lines x line value true_line so other e h)
-
-pub limits_else : (x : Element) (line : ℕ) (value : Expr) (true_line : ℕ) (so : List Element) (other : Option Branch) → x ≡ element.If line value true_line so other → IsInLimits x → OtherInLimits other
-limits_else x line value true_line so other e h = append_back (over (lines_of own_43) so) (over_option (λ (b : Branch). over (lines_of own_43) b.body) other) (if_lines x line value true_line so other e h)

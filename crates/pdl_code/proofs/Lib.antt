@@ -7,5 +7,6 @@ pub mod Trees
 pub mod Named
 pub mod Compiled
 pub mod Elements
-pub mod Written
+pub mod Room
+pub mod Emitted
 pub mod Walks

@@ -7,10 +7,13 @@ use Rattle.db_model.specs.declared.database.NamedBlock.{NamedBlock}
 use Rattle.db_model.specs.declared.database.Protocol.{Protocol}
 use Rattle.db_model.specs.BlockFaults.{includes_in}
 use Rattle.db_model.specs.Elements.{parts, each, block_of, included}
+use Rattle.db_model.specs.Lines.{over, lines_of}
 use Rattle.db_model.specs.NameIndex.{block_number_at}
 use Rattle.db_model.specs.Names.{Text, place}
 use Rattle.db_model.specs.Numbering.{Counts, plus, a_block, counts_in, fields_in, blocks_in, field_names, BlockAt, block_from, block_at}
+use Rattle.db_model.specs.NumberFaults.{own_43}
 use Rattle.db_model.specs.Runs.{Run, next, block}
+use Rattle.db_model.proofs.Accepted.{append_front, append_back}
 use Rattle.db_laws.proofs.Includes.{Each, Fits, FitsBlock, Undeclared}
 use Rattle.pdl_code.specs.declared.code.BlockStart.{BlockStart}
 use Rattle.pdl_code.specs.declared.code.Op.{Op}
@@ -18,7 +21,7 @@ use Rattle.pdl_code.specs.declared.code.Op.TheVariants.{Include}
 use Rattle.pdl_code.specs.declared.code.ProtoCode.{ProtoCode}
 use Rattle.pdl_code.specs.Coding.{Ops, ended, block_count, include_code, include_of, codes_in, block_codes, block_starts, own_code, proto_code}
 use Rattle.pdl_code.specs.Does.{Does}
-use Rattle.pdl_code.proofs.Pieces.{Piece, nothing, to_end, an_include}
+use Rattle.pdl_code.proofs.Pieces.{Piece, nothing, to_end, one_include}
 use Rattle.pdl_code.proofs.Standing.{HasAt, has_front, has_back, has_last}
 use Rattle.pdl_code.proofs.Trees.{Included, of_list}
 
@@ -79,7 +82,15 @@ pub each_of_all : (P : Text → Type 0) → ((n : Text) → P n) → (ns : List 
 each_of_all P f [] = tt
 each_of_all P f (n ∷ ns) = (f n, each_of_all P f ns)
 
-module _ (db : Database) (q : ℕ) (p : Protocol) (is : slice_get db.protocols q ≡ Some p) where
+-- the named blocks' numbers are in their limits
+block_limits : (at : Counts) (bs : List NamedBlock) (n : ℕ) (b : BlockAt) → block_nth at bs n ≡ Some b → over (λ (b : NamedBlock). over (lines_of own_43) b.body) bs ≡ [] → over (lines_of own_43) b.body ≡ []
+block_limits at [] n b e h = (cc)
+block_limits at (x ∷ bs) zero b e h =
+    let same : record { before = at; body = x.body } ≡ b = cc in
+    subst (λ (y : BlockAt). over (lines_of own_43) y.body ≡ []) same (append_front (over (lines_of own_43) x.body) (over (λ (b : NamedBlock). over (lines_of own_43) b.body) bs) h)
+block_limits at (x ∷ bs) (suc n) b e h = block_limits (plus (plus at a_block) (counts_in x.body)) bs n b e (append_back (over (lines_of own_43) x.body) (over (λ (b : NamedBlock). over (lines_of own_43) b.body) bs) h)
+
+module _ (db : Database) (q : ℕ) (p : Protocol) (is : slice_get db.protocols q ≡ Some p) (limits : over (λ (b : NamedBlock). over (lines_of own_43) b.body) (blocks_in p.format) ≡ []) where
   abbrev number_of : Text → ℕ
   number_of name = place name (map (λ (b : NamedBlock). b.name) (blocks_in p.format))
 
@@ -111,10 +122,11 @@ module _ (db : Database) (q : ℕ) (p : Protocol) (is : slice_get db.protocols q
   of_some : (name : Text) (b : BlockAt) (include : Text → Run) (r : Run) → block_at p name ≡ Some b → block_of db p include (Some b) ≡ r → Each (Included db q (field_names p) code include) (includes_in b.body) → Included db q (field_names p) code (λ m. r) name
   of_some name b include r e f h =
       let s = stands name b e in
+      let k = block_limits (counts_in (fields_in p.format)) (blocks_in p.format) (number_of name) b (sym (block_found (counts_in (fields_in p.format)) name (blocks_in p.format)) ∙ e) limits in
       let body : Run = each (parts db (field_names p) include b.body) (plus b.before a_block) in
-      let does : Does db (field_names p) code s.start.at body = to_end db (field_names p) code (codes_in db q b.body (plus b.before a_block)) body s.start.at (of_list db q (field_names p) code include b.body h (plus b.before a_block)) s.code in
+      let does : Does db (field_names p) code s.start.at body = to_end db (field_names p) code (codes_in db q b.body (plus b.before a_block)) body s.start.at (of_list db q (field_names p) code include b.body h k (plus b.before a_block)) s.code in
       let named : block s.start.number body ≡ r = ap (λ n. block n body) s.number ∙ f in
-      as_piece (Include (number_of name) ∷ []) (include_of db q name) (block s.start.number body) r (include_is name (Some b) e) named (an_include db (field_names p) code (number_of name) s.start body s.found does)
+      as_piece (Include (number_of name) ∷ []) (include_of db q name) (block s.start.number body) r (include_is name (Some b) e) named (one_include db (field_names p) code (number_of name) s.start body s.found does)
 
   -- at each level that a name fits, the operations of its include do what it does
   pub of_name : (n : ℕ) (name : Text) → Fits p n name → Included db q (field_names p) code (included db p n) name

@@ -53,21 +53,21 @@ module _ (db : Database) (fields : List Text) (code : ProtoCode) where
   around_length : (o : ℕ → Op) (body : Ops) (pc : ℕ) → pc + length (around o body) ≡ pc + 1 + (length body + 1)
   around_length o body pc = omega (arith, length-append body (End ∷ []))
 
-  pub a_block : (n : ℕ) (body : Ops) (p : Run) → Piece body p → Piece (around (Block n) body) (block n p)
-  a_block n body p x = record { piece = λ pc r h d.
+  pub one_block : (n : ℕ) (body : Ops) (p : Run) → Piece body p → Piece (around (Block n) body) (block n p)
+  one_block n body p x = record { piece = λ pc r h d.
       blocks pc n (length body + 1) p r h.0
       (to_end body p (pc + 1 + 0) x (has_same code.ops (pc + 1) (pc + 1 + 0) (ended body) (omega arith) h.1))
       (at_place (pc + length (around (Block n) body)) (pc + 1 + (length body + 1)) r (around_length (Block n) body pc) d) }
 
-  pub a_loop : (kind : LoopKind) (e : Expr) (body : Ops) (p : Run) → Piece body p → Piece (around (Loop kind e) body) (loop_by db fields kind e p)
-  a_loop kind e body p x = record { piece = λ pc r h d.
+  pub one_loop : (kind : LoopKind) (e : Expr) (body : Ops) (p : Run) → Piece body p → Piece (around (Loop kind e) body) (loop_by db fields kind e p)
+  one_loop kind e body p x = record { piece = λ pc r h d.
       loops pc kind e (length body + 1) p r h.0
       (to_end body p (pc + 1 + 0) x (has_same code.ops (pc + 1) (pc + 1 + 0) (ended body) (omega arith) h.1))
       (at_place (pc + length (around (Loop kind e) body)) (pc + 1 + (length body + 1)) r (around_length (Loop kind e) body pc) d) }
 
   -- an included block, whose body does its run from its own place on
-  pub an_include : (b : ℕ) (start : BlockStart) (p : Run) → slice_get code.blocks b ≡ Some start → Does db fields code start.at p → Piece (Include b ∷ []) (block start.number p)
-  an_include b start p s body = record { piece = λ pc r h d.
+  pub one_include : (b : ℕ) (start : BlockStart) (p : Run) → slice_get code.blocks b ≡ Some start → Does db fields code start.at p → Piece (Include b ∷ []) (block start.number p)
+  one_include b start p s body = record { piece = λ pc r h d.
       includes pc b start p r h.0 s body (at_place (pc + length (Include b ∷ [])) (pc + 1 + 0) r (omega arith) d) }
 
   -- one of two lists, by a test
@@ -75,8 +75,8 @@ module _ (db : Database) (fields : List Text) (code : ProtoCode) where
   either true pc to p q r x y = x
   either false pc to p q r x y = y
 
-  pub an_if : (e : Expr) (so other : Ops) (p q : Run) → Piece so p → Piece other q → Piece (if_code e so other) (evaluated (number db fields e) (λ v. if is_so v then p else q))
-  an_if e so other p q x y = record { piece = λ pc r h d.
+  pub one_test : (e : Expr) (so other : Ops) (p q : Run) → Piece so p → Piece other q → Piece (if_code e so other) (evaluated (number db fields e) (λ v. if is_so v then p else q))
+  one_test e so other p q x y = record { piece = λ pc r h d.
       let length_is : pc + length (if_code e so other) ≡ pc + 1 + length so + 1 + length other = omega (arith, length-append so (Jump (length other) ∷ other)) in
       let end : Does db fields code (pc + 1 + length so + 1 + length other) r = at_place (pc + length (if_code e so other)) (pc + 1 + length so + 1 + length other) r length_is d in
       let tail = has_back code.ops (pc + 1) so (Jump (length other) ∷ other) h.1 in

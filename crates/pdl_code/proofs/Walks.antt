@@ -8,27 +8,13 @@ use Rattle.db_model.specs.declared.database.NamedBlock.{NamedBlock}
 use Rattle.db_model.specs.declared.database.Protocol.{Protocol}
 use Rattle.db_model.specs.declared.element.Case.{Case}
 use Rattle.db_model.specs.declared.element.Element.{Element}
-use Rattle.db_model.specs.Lines.{Lines, over}
 use Rattle.db_model.specs.Numbering.{Counts, plus, a_block, counts_of, counts_in}
-use Rattle.db_model.proofs.Accepted.{append_front, append_back}
 use Rattle.pdl_code.specs.declared.code.BlockStart.{BlockStart}
 use Rattle.pdl_code.specs.declared.code.Op.TheVariants.{End}
 use Rattle.pdl_code.specs.declared.code.ProtoCode.{ProtoCode}
 use Rattle.pdl_code.specs.Coding.{Ops, ended, begins, code_of, codes_in, block_codes, block_starts, proto_code, protocol_codes}
 use Rattle.pdl_code.specs.Parts.{open_bodies, ends, counts_in_cases, codes_in_cases}
 use Rattle.pdl_code.proofs.Elements.{plus_assoc}
-
--- ---- limits
-
-module _ {X : Type 0} (f : X → Lines) (xs : List X) (i : ℕ) (x : X) (within : i < length xs) (is : x ≡ get_or xs i x) (h : over f (drop i xs) ≡ []) where
-  both_empty : f x ++ over f (drop (i + 1) xs) ≡ []
-  both_empty = ap (λ y. f y ++ over f (drop (i + 1) xs)) is ∙ sym (at_drop_more (over f) xs i x within) ∙ h
-
-  pub this_empty : f x ≡ []
-  this_empty = append_front (f x) (over f (drop (i + 1) xs)) both_empty
-
-  pub rest_empty : over f (drop (i + 1) xs) ≡ []
-  rest_empty = append_back (f x) (over f (drop (i + 1) xs)) both_empty
 
 -- ---- elements
 

@@ -1,5 +1,5 @@
 -- The operations of which code is made: those of an element, given how many fields and blocks of the protocol stand before it, of a list, and of a protocol.
-use Rattle.std.specs.Prelude.{ℕ, zero, suc, ◌+◌, if◌then◌else◌, nat_lt, List, [], ◌∷◌, ◌++◌, map, length, slice_get, Option, Some, None}
+use Rattle.std.specs.Prelude.{ℕ, zero, suc, ◌+◌, Bool, true, not, ◌&&◌, ◌==◌, if◌then◌else◌, nat_lt, List, [], ◌∷◌, ◌++◌, map, length, slice_get, Option, Some, None}
 use Rattle.db_model.specs.declared.database.Database.{Database}
 use Rattle.db_model.specs.declared.database.NamedBlock.{NamedBlock}
 use Rattle.db_model.specs.declared.database.Protocol.{Protocol}
@@ -9,9 +9,11 @@ use Rattle.db_model.specs.declared.element.FieldForm.{FieldForm}
 use Rattle.db_model.specs.declared.element.FieldForm.TheVariants as form
 use Rattle.db_model.specs.declared.expression.Expr.{Expr}
 use Rattle.db_model.specs.declared.field_kind.CaseRange.{CaseRange}
+use Rattle.db_model.specs.declared.limits.TheConstants.{MOST_BIT_SIZE, LEAST_ALIGNMENT, MOST_ALIGNMENT}
 use Rattle.db_model.specs.Chain.{elements_of}
 use Rattle.db_model.specs.Extent.{kind_of}
 use Rattle.db_model.specs.Folds.{Noted, CaseOf, BranchOf, ElementOf, noted_element}
+use Rattle.db_model.specs.Forms.{is_between}
 use Rattle.db_model.specs.NameIndex.{block_number_at}
 use Rattle.db_model.specs.Names.{Text, variable_at, table_at}
 use Rattle.db_model.specs.Numbering.{Counts, none, plus, a_block, counts_of, counts_in, fields_in, blocks_in}
@@ -92,6 +94,18 @@ field_op (form.TokenEnded token) n = Field n (kind_of (form.TokenEnded token))
 field_op form.Line n = Field n (kind_of form.Line)
 field_op (form.Padding align) n = Field n (kind_of (form.Padding align))
 
+-- a field of this form can be read; a database without faults has no other
+abbrev pub is_sound : FieldForm → Bool
+is_sound (form.Fixed s) = true
+is_sound (form.Bit s mask) = is_between 1 MOST_BIT_SIZE s && not (mask == 0)
+is_sound (form.Variable e) = true
+is_sound (form.TokenEnded token) = true
+is_sound form.Line = true
+is_sound (form.Padding align) = is_between LEAST_ALIGNMENT MOST_ALIGNMENT align
+
+abbrev pub field_code : FieldForm → ℕ → Ops
+field_code f n = if is_sound f then field_op f n ∷ [] else []
+
 -- how many named blocks a protocol has
 abbrev pub block_count : Option Protocol → ℕ
 block_count None = zero
@@ -108,7 +122,7 @@ module _ (db : Database) (q : ℕ) where
 
   -- the operations of one layer of an element, with those of its parts
   abbrev pub coded : ElementOf Coded → Counts → Ops
-  coded (layer.Field line name f longname show) at = field_op f at.fields ∷ []
+  coded (layer.Field line name f longname show) at = field_code f at.fields
   coded (layer.Block line name longname body) at = around (Block at.blocks) (codes body (plus at a_block))
   coded (layer.IncludeBlock line name) at = include_of name
   coded (layer.Loop line k e body) at = around (Loop k e) (codes body at)

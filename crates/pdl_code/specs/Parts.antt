@@ -1,19 +1,15 @@
 -- What emitting says of what it wrote: the operations of elements and of their parts, as the code has them.
 use Rattle.std.specs.Prelude.{◌≡◌, ℕ, ◌+◌, ◌-◌, ◌<◌, List, [], ◌∷◌, ◌++◌, length, slice_set, Option, Some, None}
 use Rattle.db_model.specs.declared.database.Database.{Database}
-use Rattle.db_model.specs.declared.database.NamedBlock.{NamedBlock}
 use Rattle.db_model.specs.declared.element.Branch.{Branch}
 use Rattle.db_model.specs.declared.element.Case.{Case}
-use Rattle.db_model.specs.declared.element.Element.{Element}
 use Rattle.db_model.specs.declared.field_kind.CaseRange.{CaseRange}
-use Rattle.db_model.specs.Lines.{over, over_option, lines_of}
 use Rattle.db_model.specs.Numbering.{Counts, none, plus, counts_in}
-use Rattle.db_model.specs.NumberFaults.{own_43}
 use Rattle.pdl_code.specs.declared.code.BlockStart.{BlockStart}
 use Rattle.pdl_code.specs.declared.code.Op.{Op}
 use Rattle.pdl_code.specs.declared.code.Op.TheVariants.{End, Jump}
 use Rattle.pdl_code.specs.declared.place.Place.{Place}
-use Rattle.pdl_code.specs.declared.switch.Bodies.{Bodies}
+use Rattle.pdl_code.specs.declared.written.Bodies.{Bodies}
 use Rattle.pdl_code.specs.Coding.{Ops, begins, codes_in}
 
 abbrev pub counts : Place → Counts
@@ -66,23 +62,6 @@ abbrev pub AllBelow : ℕ → List ℕ → Type 0
 AllBelow n [] = Unit {0}
 AllBelow n (p ∷ ps) = (p < n) × AllBelow n ps
 
--- ---- numbers in their limits
-
-abbrev pub IsInLimits : Element → Type 0
-IsInLimits x = lines_of own_43 x ≡ []
-
-abbrev pub AreInLimits : List Element → Type 0
-AreInLimits xs = over (lines_of own_43) xs ≡ []
-
-abbrev pub CasesInLimits : List Case → Type 0
-CasesInLimits cs = over (λ (c : Case). over (lines_of own_43) c.body) cs ≡ []
-
-abbrev pub OtherInLimits : Option Branch → Type 0
-OtherInLimits other = over_option (λ (b : Branch). over (lines_of own_43) b.body) other ≡ []
-
-abbrev pub BlocksInLimits : List NamedBlock → Type 0
-BlocksInLimits bs = over (λ (b : NamedBlock). over (lines_of own_43) b.body) bs ≡ []
-
 -- ---- what was written of cases
 
 -- the bodies stand behind those operations that were there, with where each begins and ends
@@ -102,4 +81,4 @@ pub record WroteOwn (has : Counts) (code before after : Ops) (at : Place) : Type
 -- its named blocks, with where each begins
 pub record WroteBlocks (code : Ops) (starts : List BlockStart) (before after : Ops) (written : List BlockStart) : Type 0 where
   pub ops : after ≡ before ++ code
-  pub starts : written ≡ starts
+  pub begin : written ≡ starts

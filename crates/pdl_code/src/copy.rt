@@ -25,19 +25,18 @@ pub fn expr(alloc: Global, of: &Expr) -> Result<Expr, NoMemory>
         Expr::Variable(of) => Ok(Expr::Variable(name(alloc, of)?)),
         Expr::Column { table, column } => column_of(alloc, table, column),
         Expr::Not(x) => Ok(Expr::Not(boxed(alloc, x)?)),
-        Expr::And(x, y) => {
-            let (x, y) = two(alloc, x, y)?;
-            Ok(Expr::And(x, y))
-        }
-        Expr::Or(x, y) => {
-            let (x, y) = two(alloc, x, y)?;
-            Ok(Expr::Or(x, y))
-        }
-        Expr::Binary(operator, x, y) => {
-            let (x, y) = two(alloc, x, y)?;
-            Ok(Expr::Binary(*operator, x, y))
-        }
-        Expr::Slice { base, from, count } => slice(alloc, base, from, count),
+        Expr::And(x, y) => Ok(Expr::And(boxed(alloc, x)?, boxed(alloc, y)?)),
+        Expr::Or(x, y) => Ok(Expr::Or(boxed(alloc, x)?, boxed(alloc, y)?)),
+        Expr::Binary(operator, x, y) => Ok(Expr::Binary(
+            *operator,
+            boxed(alloc, x)?,
+            boxed(alloc, y)?,
+        )),
+        Expr::Slice { base, from, count } => Ok(Expr::Slice {
+            base: boxed(alloc, base)?,
+            from: boxed(alloc, from)?,
+            count: boxed(alloc, count)?,
+        }),
         Expr::ToNumber(x) => Ok(Expr::ToNumber(boxed(alloc, x)?)),
         Expr::LengthOf(x) => Ok(Expr::LengthOf(boxed(alloc, x)?)),
         Expr::ToBytes { value, size } => Ok(Expr::ToBytes {
@@ -57,39 +56,12 @@ fn boxed(alloc: Global, of: &Boxed<Expr>) -> Result<Boxed<Expr>, NoMemory>
     Ok(Boxed::new(alloc, expr(alloc, of.get())?)?)
 }
 
-#[cycle(copy)]
-fn two(
-    alloc: Global,
-    x: &Boxed<Expr>,
-    y: &Boxed<Expr>,
-) -> Result<(Boxed<Expr>, Boxed<Expr>), NoMemory>
-    ensures { IfOk result (λ c. (c.0 ≡ x.now) × (c.1 ≡ y.now)) }
-{
-    let x = boxed(alloc, x)?;
-    let y = boxed(alloc, y)?;
-    Ok((x, y))
-}
-
 fn column_of(alloc: Global, table: &Name, column: &Name) -> Result<Expr, NoMemory>
     ensures { IfOk result (λ c. c ≡ Expr.Column table.now column.now) }
 {
     let table = name(alloc, table)?;
     let column = name(alloc, column)?;
     Ok(Expr::Column { table, column })
-}
-
-#[cycle(copy)]
-fn slice(
-    alloc: Global,
-    base: &Boxed<Expr>,
-    from: &Boxed<Expr>,
-    count: &Boxed<Expr>,
-) -> Result<Expr, NoMemory>
-    ensures { IfOk result (λ c. c ≡ Expr.Slice base.now from.now count.now) }
-{
-    let base = boxed(alloc, base)?;
-    let (from, count) = two(alloc, from, count)?;
-    Ok(Expr::Slice { base, from, count })
 }
 
 #[cycle(copy)]

@@ -2,14 +2,14 @@
 //! what stands before the next is given. After want of memory the operations are of no use. The functions go as
 //! deep as the elements nest.
 
-ghost use Rattle.std.specs.Prelude.{◌≡◌, ◌∷◌, ◌+◌, [], map, IfOk};
+ghost use Rattle.std.specs.Prelude.{◌∷◌, IfOk};
 ghost use Rattle.db_model.specs.Numbering.{plus, a_block, counts_of, counts_in};
-ghost use Rattle.pdl_code.specs.Coding.{ended, around, if_code, switch_code, code_of, codes_in};
-ghost use Rattle.pdl_code.specs.Parts.{Wrote, WroteBodies, counts, case_range, counts_in_cases, counts_in_other, codes_in_cases, codes_in_other, IsInLimits, AreInLimits, CasesInLimits, OtherInLimits};
+ghost use Rattle.pdl_code.specs.Coding.{ended, around, code_of, codes_in};
+ghost use Rattle.pdl_code.specs.Parts.{Wrote, WroteBodies, counts, counts_in_cases, counts_in_other, codes_in_cases, codes_in_other};
 ghost use Rattle.pdl_code.specs.declared.code.Op.TheVariants as op;
 
 use crate::place::Place;
-use crate::switch::{Bodies, ranges, write_jumps};
+use crate::written::{Bodies, write_switch, write_test};
 use crate::{Op, copy, leaf};
 use db_model::{Branch, Case, CheckedDb, Element, Expr, LoopKind, NoMemory};
 use sqlite_items::Items;
@@ -24,7 +24,6 @@ fn element(
     at: Place,
     ops: &mut Items<Op>,
 ) -> Result<Place, NoMemory>
-    requires { IsInLimits x.now }
     ensures { IfOk result (λ to. Wrote (counts_of x.now) (code_of db.now protocol x.now) ops.old ops.new at to) }
 {
     match x {
@@ -37,9 +36,9 @@ fn element(
             alloc,
             db,
             protocol,
+            body.as_slice(),
             *kind,
             expr,
-            body.as_slice(),
             at,
             ops,
         ),
@@ -49,31 +48,30 @@ fn element(
             cases,
             otherwise,
             ..
-        } => switch(
-            alloc,
-            db,
-            protocol,
-            expr,
-            cases.as_slice(),
-            otherwise,
-            at,
-            ops,
-        ),
+        } => {
+            let start = ops.len();
+            ops.push(Op::End)?;
+            let bodies = bodies(alloc, db, protocol, cases.as_slice(), at, ops)?;
+            let middle = ops.len();
+            let to = other(alloc, db, protocol, otherwise, bodies.to, ops)?;
+            write_switch(alloc, expr, cases.as_slice(), bodies, start, middle, ops)?;
+            Ok(to)
+        }
         Element::If {
             expr,
             if_true,
             if_false,
             ..
-        } => condition(
-            alloc,
-            db,
-            protocol,
-            expr,
-            if_true.as_slice(),
-            if_false,
-            at,
-            ops,
-        ),
+        } => {
+            let start = ops.len();
+            ops.push(Op::End)?;
+            let behind = list(alloc, db, protocol, if_true.as_slice(), at, ops)?;
+            let middle = ops.len();
+            ops.push(Op::End)?;
+            let to = other(alloc, db, protocol, if_false, behind, ops)?;
+            write_test(alloc, expr, start, middle, ops)?;
+            Ok(to)
+        }
         Element::Assign { name, value, .. } => leaf::assign(alloc, db, name, value, at, ops),
         Element::Update {
             table,
@@ -109,7 +107,6 @@ pub fn list(
     at: Place,
     ops: &mut Items<Op>,
 ) -> Result<Place, NoMemory>
-    requires { AreInLimits xs.now }
     ensures { IfOk result (λ to. Wrote (counts_in xs.now) (codes_in db.now protocol xs.now) ops.old ops.new at to) }
 {
     let mut to = at;
@@ -129,7 +126,6 @@ fn body(
     at: Place,
     ops: &mut Items<Op>,
 ) -> Result<Place, NoMemory>
-    requires { AreInLimits xs.now }
     ensures { IfOk result (λ to. Wrote (counts_in xs.now) (λ n. op.End ∷ ended (codes_in db.now protocol xs.now n)) ops.old ops.new at to) }
 {
     ops.push(Op::End)?;
@@ -147,7 +143,6 @@ fn block(
     at: Place,
     ops: &mut Items<Op>,
 ) -> Result<Place, NoMemory>
-    requires { AreInLimits xs.now }
     ensures { IfOk result (λ to. Wrote (plus a_block (counts_in xs.now)) (λ n. around (op.Block n.blocks) (codes_in db.now protocol xs.now (plus n a_block))) ops.old ops.new at to) }
 {
     let start = ops.len();
@@ -169,13 +164,12 @@ fn looped(
     alloc: Global,
     db: &CheckedDb,
     protocol: usize,
+    xs: &[Element],
     kind: LoopKind,
     value: &Expr,
-    xs: &[Element],
     at: Place,
     ops: &mut Items<Op>,
 ) -> Result<Place, NoMemory>
-    requires { AreInLimits xs.now }
     ensures { IfOk result (λ to. Wrote (counts_in xs.now) (λ n. around (op.Loop kind value.now) (codes_in db.now protocol xs.now n)) ops.old ops.new at to) }
 {
     let start = ops.len();
@@ -183,78 +177,6 @@ fn looped(
     let value = copy::expr(alloc, value)?;
     let after = ops.len() - start - 1;
     ops.set(start, Op::Loop { kind, value, after });
-    Ok(to)
-}
-
-#[cycle(emit)]
-fn condition(
-    alloc: Global,
-    db: &CheckedDb,
-    protocol: usize,
-    value: &Expr,
-    so: &[Element],
-    otherwise: &Option<Branch>,
-    at: Place,
-    ops: &mut Items<Op>,
-) -> Result<Place, NoMemory>
-    requires so { AreInLimits so.now }
-    requires otherwise { OtherInLimits otherwise.now }
-    ensures { IfOk result (λ to. Wrote (plus (counts_in so.now) (counts_in_other otherwise.now)) (λ n. if_code value.now (codes_in db.now protocol so.now n) (codes_in_other db.now protocol otherwise.now (plus n (counts_in so.now)))) ops.old ops.new at to) }
-{
-    let start = ops.len();
-    ops.push(Op::End)?;
-    let behind = list(alloc, db, protocol, so, at, ops)?;
-    let middle = ops.len();
-    ops.push(Op::End)?;
-    let to = other(alloc, db, protocol, otherwise, behind, ops)?;
-    let value = copy::expr(alloc, value)?;
-    let end = ops.len();
-    ops.set(
-        start,
-        Op::Test {
-            value,
-            to: middle - start,
-        },
-    );
-    ops.set(
-        middle,
-        Op::Jump {
-            to: end - middle - 1,
-        },
-    );
-    Ok(to)
-}
-
-#[cycle(emit)]
-fn switch(
-    alloc: Global,
-    db: &CheckedDb,
-    protocol: usize,
-    value: &Expr,
-    cases: &[Case],
-    otherwise: &Option<Branch>,
-    at: Place,
-    ops: &mut Items<Op>,
-) -> Result<Place, NoMemory>
-    requires cases { CasesInLimits cases.now }
-    requires otherwise { OtherInLimits otherwise.now }
-    ensures { IfOk result (λ to. Wrote (plus (counts_in_cases cases.now) (counts_in_other otherwise.now)) (λ n. switch_code value.now (map case_range cases.now) (codes_in_cases db.now protocol cases.now n) (codes_in_other db.now protocol otherwise.now (plus n (counts_in_cases cases.now)))) ops.old ops.new at to) }
-{
-    let start = ops.len();
-    ops.push(Op::End)?;
-    let bodies = bodies(alloc, db, protocol, cases, at, ops)?;
-    let before_other = ops.len();
-    let to = other(alloc, db, protocol, otherwise, bodies.to, ops)?;
-    let value = copy::expr(alloc, value)?;
-    let ranges = ranges(alloc, cases)?;
-    write_jumps(ops, bodies.ends.as_slice());
-    let op = Op::Switch {
-        value,
-        ranges,
-        targets: bodies.begins,
-        otherwise: before_other - start - 1,
-    };
-    ops.set(start, op);
     Ok(to)
 }
 
@@ -268,7 +190,6 @@ fn bodies(
     at: Place,
     ops: &mut Items<Op>,
 ) -> Result<Bodies, NoMemory>
-    requires { CasesInLimits cases.now }
     ensures { IfOk result (λ b. WroteBodies (counts_in_cases cases.now) (codes_in_cases db.now protocol cases.now (counts at)) ops.old ops.new at b) }
 {
     let first = ops.len();
@@ -294,7 +215,6 @@ fn other(
     at: Place,
     ops: &mut Items<Op>,
 ) -> Result<Place, NoMemory>
-    requires { OtherInLimits branch.now }
     ensures { IfOk result (λ to. Wrote (counts_in_other branch.now) (codes_in_other db.now protocol branch.now) ops.old ops.new at to) }
 {
     match branch {

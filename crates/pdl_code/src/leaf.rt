@@ -1,20 +1,34 @@
 //! The operations of elements in which no others stand.
 
-ghost use Rattle.std.specs.Prelude.{◌≡◌, [], ◌∷◌, false, slice_get, IfOk};
+ghost use Rattle.std.specs.Prelude.{◌≡◌, [], ◌∷◌, true, slice_get, IfOk};
 ghost use Rattle.db_model.specs.Names.{variable_at, table_at};
-ghost use Rattle.db_model.specs.NumberFaults.{form_is_outside};
 ghost use Rattle.db_model.specs.Numbering.{none, a_field};
-ghost use Rattle.pdl_code.specs.Coding.{field_op, block_count, include_of};
+ghost use Rattle.pdl_code.specs.Coding.{is_sound, field_op, field_code, block_count, include_of};
 ghost use Rattle.pdl_code.specs.Parts.{Wrote};
 
 use crate::place::Place;
 use crate::{Op, SoundKind, copy};
-use db_model::{CheckedDb, Expr, FieldForm, FieldKind, Name, NoMemory, Protocol, UpdateKey, UpdateValue, Validity};
+use db_model::{CheckedDb, Expr, FieldForm, FieldKind, LEAST_ALIGNMENT, MOST_ALIGNMENT, MOST_BIT_SIZE, Name, NoMemory, Protocol, UpdateKey, UpdateValue, Validity};
 use sqlite_items::Items;
 use std::alloc::Global;
 
+/// Whether a field of this form can be read: a bit field has 1 to 4 bytes and a mask other than 0, and an alignment
+/// is within its limits.
+fn is_sound(form: &FieldForm) -> bool
+    ensures { result ≡ is_sound form.now }
+{
+    match form {
+        FieldForm::Bit { size, mask } => 1 <= *size && *size <= MOST_BIT_SIZE && *mask != 0,
+        FieldForm::Padding { align } => LEAST_ALIGNMENT <= *align && *align <= MOST_ALIGNMENT,
+        FieldForm::Fixed { .. } => true,
+        FieldForm::Variable { .. } => true,
+        FieldForm::TokenEnded { .. } => true,
+        FieldForm::Line => true,
+    }
+}
+
 fn field_op(alloc: Global, form: &FieldForm, number: u32) -> Result<Op, NoMemory>
-    requires { form_is_outside form.now ≡ false }
+    requires { is_sound form.now ≡ true }
     ensures { IfOk result (λ o. o ≡ field_op form.now number) }
 {
     match form {
@@ -48,16 +62,19 @@ fn field_op(alloc: Global, form: &FieldForm, number: u32) -> Result<Op, NoMemory
     }
 }
 
+/// A field; nothing where it can't be read.
 pub fn field(
     alloc: Global,
     form: &FieldForm,
     at: Place,
     ops: &mut Items<Op>,
 ) -> Result<Place, NoMemory>
-    requires { form_is_outside form.now ≡ false }
-    ensures { IfOk result (λ to. Wrote a_field (λ n. field_op form.now n.fields ∷ []) ops.old ops.new at to) }
+    ensures { IfOk result (λ to. Wrote a_field (λ n. field_code form.now n.fields) ops.old ops.new at to) }
 {
     let to = at.behind_field()?;
+    if !is_sound(form) {
+        return Ok(to);
+    }
     ops.push(field_op(alloc, form, at.fields)?)?;
     Ok(to)
 }

@@ -10,7 +10,7 @@ mod emit;
 mod leaf;
 mod place;
 mod sound;
-mod switch;
+mod written;
 
 pub use code::BlockStart;
 pub use code::Code;

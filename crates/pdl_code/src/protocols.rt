@@ -1,11 +1,11 @@
 //! The code of protocols, and of a whole database.
 
-ghost use Rattle.std.specs.Prelude.{◌≡◌, ◌++◌, [], length, slice_get, Some, IfOk};
-ghost use Rattle.db_model.specs.Chain.{elements_of, before_in, after_in};
+ghost use Rattle.std.specs.Prelude.{◌≡◌, length, IfOk};
+ghost use Rattle.db_model.specs.Chain.{before_in, after_in};
 ghost use Rattle.db_model.specs.Numbering.{counts_in, elements_in, fields_in, blocks_in};
 ghost use Rattle.pdl_code.specs.Coding.{own_code, block_codes, block_starts, proto_code};
 ghost use Rattle.pdl_code.specs.Does.{IsCodeOf};
-ghost use Rattle.pdl_code.specs.Parts.{counts, WroteOwn, WroteBlocks, AreInLimits, BlocksInLimits};
+ghost use Rattle.pdl_code.specs.Parts.{counts, WroteOwn, WroteBlocks};
 
 use crate::emit::list;
 use crate::place::Place;
@@ -32,7 +32,6 @@ fn of_protocol(
     number: usize,
     protocol: &Protocol,
 ) -> Result<ProtoCode, NoMemory>
-    requires { slice_get db.now.protocols number ≡ Some protocol.now }
     ensures { IfOk result (λ c. c ≡ proto_code db.now number protocol.now) }
 {
     let mut ops = Items::new(alloc);
@@ -49,7 +48,6 @@ fn own_list(
     protocol: &Protocol,
     ops: &mut Items<Op>,
 ) -> Result<Place, NoMemory>
-    requires { AreInLimits (elements_of protocol.now) }
     ensures { IfOk result (λ at. WroteOwn (counts_in (fields_in protocol.now.format)) (own_code db.now number protocol.now) ops.old ops.new at) }
 {
     let fields = list(alloc, db, number, before_in(protocol), Place::start(), ops)?;
@@ -70,7 +68,6 @@ fn named(
     at: Place,
     ops: &mut Items<Op>,
 ) -> Result<Items<BlockStart>, NoMemory>
-    requires { BlocksInLimits blocks.now }
     ensures { IfOk result (λ s. WroteBlocks (block_codes db.now number blocks.now (counts at)) (block_starts db.now number (length ops.old) blocks.now (counts at)) ops.old ops.new s) }
 {
     let mut starts = Items::new(alloc);

@@ -1,6 +1,6 @@
 use Rattle.std.proofs.Common.{◌≡◌, drop, length}
 use Rattle.pdl_code.specs.Parts.{jumps_to, AllBelow}
-use Rattle.pdl_code.proofs.switch.write_jumps.Given as goal
+use Rattle.pdl_code.proofs.written.write_jumps.Given as goal
 
 abbrev pub invariant-loop-place : goal.invariant-loop-place
 invariant-loop-place l = record {
