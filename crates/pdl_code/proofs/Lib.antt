@@ -10,3 +10,4 @@ pub mod Elements
 pub mod Room
 pub mod Emitted
 pub mod Walks
+pub mod Whole
