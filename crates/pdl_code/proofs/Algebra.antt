@@ -1,14 +1,14 @@
 -- How runs are put together: equations of runs.
-use Rattle.std.specs.Prelude.{◌≡◌, ℕ, List, [], ◌∷◌, ◌++◌, Result, Ok, Err}
-use Rattle.std.proofs.Common.{refl, sym, ap, ◌∙◌, append_assoc, append-nil}
+use Rattle.std.specs.Prelude.{◌≡◌, List, ◌++◌, Result, Ok, Err}
+use Rattle.std.proofs.Common.{refl, sym, ◌∙◌, append_assoc, append-nil}
 use Rattle.db_model.specs.declared.env.Frame.{Frame}
 use Rattle.db_model.specs.declared.env.Way.{Way}
 use Rattle.db_model.specs.declared.env.Way.TheVariants.{Next, Break, Continue, Chose, Stop}
 use Rattle.db_model.specs.declared.tree.Node.{Node}
 use Rattle.db_model.specs.declared.tree.Reason.{Reason}
 use Rattle.db_model.specs.Expression.{Eval}
-use Rattle.db_model.specs.Questions.{Asks, Gives, Asking, and_then, Step, ◌then◌}
-use Rattle.db_model.specs.Runs.{Went, Run, next, halt, behind, go_on, go, within, or_halt, evaluated}
+use Rattle.db_model.specs.Questions.{Asks, Gives, Asking, and_then, ◌then◌}
+use Rattle.db_model.specs.Runs.{Went, Run, next, behind, go_on, go, within, or_halt, evaluated}
 
 pub and_gives : {A : Type 0} (x : Asks A) → and_then x (λ a. Gives a) ≡ x
 and_gives (Gives a) = refl

@@ -1,5 +1,5 @@
 -- A switch: the case that its operation jumps to is the one that is chosen.
-use Rattle.std.specs.Prelude.{◌≡◌, ℕ, suc, ◌+◌, Bool, true, false, cond, not, ◌&&◌, if◌then◌else◌, nat_lt, nat_le, List, [], ◌∷◌, ◌++◌, map, length, slice_get, unwrap_or, Option, Some, None}
+use Rattle.std.specs.Prelude.{◌≡◌, ℕ, suc, ◌+◌, Bool, true, false, cond, not, ◌&&◌, if◌then◌else◌, nat_lt, nat_le, List, [], ◌∷◌, ◌++◌, map, length, Option, Some, None}
 use Rattle.std.specs.List.{position_or_len}
 use Rattle.std.proofs.Common.{refl, sym, ap, subst, ◌∙◌, arith, append_assoc, length-append}
 use Rattle.std.proofs.lemmas.Bool.Decides.{nat_tests}
@@ -14,7 +14,7 @@ use Rattle.db_model.specs.Questions.{◌then◌}
 use Rattle.db_model.specs.Runs.{Run, go, evaluated}
 use Rattle.encap.specs.Choice.{case_holds}
 use Rattle.pdl_code.specs.declared.code.Op.{Op}
-use Rattle.pdl_code.specs.declared.code.Op.TheVariants.{Jump, Switch}
+use Rattle.pdl_code.specs.declared.code.Op.TheVariants.{Jump}
 use Rattle.pdl_code.specs.declared.code.ProtoCode.{ProtoCode}
 use Rattle.pdl_code.specs.Coding.{Ops, Coded, all_in, codes, other_codes, bodies, begins, switch_code, range_of, case_codes, behind_cases}
 use Rattle.pdl_code.specs.Does.{target_at, target, Does, jumps, switches}
@@ -88,14 +88,14 @@ module _ (db : Database) (fields : List Text) (code : ProtoCode) where
         let end : place + length (b ++ jump ∷ rest) + more ≡ place + length b + 1 + (length rest + more) = omega (arith, l) in
         let end' : place + length (b ++ jump ∷ rest) + more ≡ place + length b + 1 + length rest + more = omega (arith, l) in
         let first : Does db fields code place (each p.body at then go r) =
-            (x.0.body at).piece place r (has_front code.ops place b (jump ∷ (rest ++ last)) h')
-            (jumps (place + length b) (length rest + more) r tail.0 (at_place db fields code (place + length (b ++ jump ∷ rest) + more) (place + length b + 1 + (length rest + more)) r end d)) in
+        (x.0.body at).piece place r (has_front code.ops place b (jump ∷ (rest ++ last)) h')
+        (jumps (place + length b) (length rest + more) r tail.0 (at_place db fields code (place + length (b ++ jump ∷ rest) + more) (place + length b + 1 + (length rest + more)) r end d)) in
         let second : Does db fields code (start + target (map range_of cs) (begins (from + length b + 1) (case_codes cs next_at)) otherwise v) (choose v ps q next_at then go r) =
-            chosen cs ps x.1 next_at (place + length b + 1) (from + length b + 1) (omega (arith, f)) (omega (arith, o, l)) m tail.1 (at_place db fields code (place + length (b ++ jump ∷ rest) + more) (place + length b + 1 + length rest + more) r end' d) in
+        chosen cs ps x.1 next_at (place + length b + 1) (from + length b + 1) (omega (arith, f)) (omega (arith, o, l)) m tail.1 (at_place db fields code (place + length (b ++ jump ∷ rest) + more) (place + length b + 1 + length rest + more) r end' d) in
         let to : ℕ = target (map range_of cs) (begins (from + length b + 1) (case_codes cs next_at)) otherwise v in
         let test : case_holds v (range_of c) ≡ holds p v = λ i. nat_le (x.0.value i) v && nat_le v (x.0.maxvalue i) in
         let goes : target (range_of c ∷ map range_of cs) (from ∷ begins (from + length b + 1) (case_codes cs next_at)) otherwise v ≡ (if holds p v then from else to) =
-            target_first (range_of c) (map range_of cs) from (begins (from + length b + 1) (case_codes cs next_at)) otherwise v ∙ ap (λ t. if t then from else to) test in
+        target_first (range_of c) (map range_of cs) from (begins (from + length b + 1) (case_codes cs next_at)) otherwise v ∙ ap (λ t. if t then from else to) test in
         let second' : Does db fields code (start + to) (choose v ps q (plus at (total p.body)) then go r) = subst (λ n. Does db fields code (start + to) (choose v ps q (plus at n) then go r)) x.0.has second in
         at_place db fields code (start + (if holds p v then from else to)) (start + target (range_of c ∷ map range_of cs) (from ∷ begins (from + length b + 1) (case_codes cs next_at)) otherwise v) (choose v (p ∷ ps) q at then go r) (ap (λ n. start + n) (sym goes))
         (either (holds p v) start from to (each p.body at) (choose v ps q (plus at (total p.body))) r (at_place db fields code place (start + from) (each p.body at then go r) f first) second')
@@ -104,9 +104,11 @@ module _ (db : Database) (fields : List Text) (code : ProtoCode) where
   one_switch e cs ps other q x y at =
       let last : Ops = other_codes other (behind_cases cs at) in
       let all : Ops = bodies (case_codes cs at) (length last) in
-      record { piece = λ pc r h d.
-        as_run db fields code pc (evaluated (number db fields e) (λ v. choose v ps q at then go r)) (evaluated (number db fields e) (λ v. choose v ps q at) then go r) (sym (evaluated_go (number db fields e) (λ v. choose v ps q at) r))
-        (switches pc e (map range_of cs) (begins 0 (case_codes cs at)) (length all) (λ v. choose v ps q at then go r) h.0 (λ v.
+      record {
+        piece = λ pc r h d.
+            as_run db fields code pc (evaluated (number db fields e) (λ v. choose v ps q at then go r)) (evaluated (number db fields e) (λ v. choose v ps q at) then go r) (sym (evaluated_go (number db fields e) (λ v. choose v ps q at) r))
+            (switches pc e (map range_of cs) (begins 0 (case_codes cs at)) (length all) (λ v. choose v ps q at then go r) h.0 (λ v.
             let l : pc + length (switch_code e (map range_of cs) (case_codes cs at) last) ≡ pc + 1 + length all + length last = omega (arith, length-append all last) in
             chosen other q y (pc + 1) (length all) (length last) r v cs ps x at (pc + 1) 0 (omega arith) refl refl h.1
-            (at_place db fields code (pc + length (switch_code e (map range_of cs) (case_codes cs at) last)) (pc + 1 + length all + length last) r l d))) }
+            (at_place db fields code (pc + length (switch_code e (map range_of cs) (case_codes cs at) last)) (pc + 1 + length all + length last) r l d)));
+      }

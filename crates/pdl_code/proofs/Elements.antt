@@ -1,7 +1,7 @@
 -- An element by its parts: its counts and its operations.
-use Rattle.std.specs.Prelude.{◌≡◌, ℕ, ◌+◌, List, [], ◌∷◌, ◌++◌, map, Option, Some, None}
+use Rattle.std.specs.Prelude.{◌≡◌, ℕ, ◌+◌, List, [], ◌∷◌, map, Option, Some, None}
 use Rattle.std.specs.Option.{option_map}
-use Rattle.std.proofs.Common.{refl, sym, ap, subst, ◌∙◌, arith}
+use Rattle.std.proofs.Common.{refl, sym, ap, ◌∙◌, arith}
 use Rattle.db_model.specs.declared.database.Database.{Database}
 use Rattle.db_model.specs.declared.element.Branch.{Branch}
 use Rattle.db_model.specs.declared.element.Case.{Case}
@@ -14,12 +14,11 @@ use Rattle.db_model.specs.declared.element.UpdateKey.{UpdateKey}
 use Rattle.db_model.specs.declared.element.UpdateValue.{UpdateValue}
 use Rattle.db_model.specs.declared.entry.Validity.{Validity}
 use Rattle.db_model.specs.declared.expression.Expr.{Expr}
-use Rattle.db_model.specs.Folds.{CaseOf, BranchOf, Noted}
 use Rattle.db_model.specs.Names.{Text, variable_at, table_at}
-use Rattle.db_model.specs.Numbering.{Counts, none, plus, a_field, a_block, all_counts, case_counts, branch_counts, counts_step, counts_of, counts_in}
+use Rattle.db_model.specs.Numbering.{Counts, none, plus, a_field, a_block, case_counts, branch_counts, counts_step, counts_of, counts_in}
 use Rattle.db_model.proofs.Layers.{fold_block, fold_loop, fold_switch, fold_if, fold_case, fold_branch, noted_block, noted_loop, noted_switch, noted_if, noted_case, noted_branch}
 use Rattle.pdl_code.specs.declared.code.Op.TheVariants.{Assign, Update, NextProto, Leave, Block, Loop}
-use Rattle.pdl_code.specs.Coding.{Ops, all_in, codes, other_codes, around, if_code, switch_code, range_of, case_codes, behind_cases, field_code, include_of, coded, code_of, coded_parts, codes_in}
+use Rattle.pdl_code.specs.Coding.{Ops, all_in, other_codes, around, if_code, switch_code, range_of, case_codes, behind_cases, field_code, include_of, coded, code_of, coded_parts, codes_in}
 use Rattle.pdl_code.specs.Parts.{case_range, counts_in_cases, counts_in_other, codes_in_cases, codes_in_other}
 
 pub plus_none : (a : Counts) → plus a none ≡ a

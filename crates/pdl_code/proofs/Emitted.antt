@@ -1,21 +1,20 @@
 -- What emitting one form wrote, from what its parts wrote.
-use Rattle.std.specs.Prelude.{◌≡◌, ℕ, ◌+◌, ◌-◌, ◌<◌, ◌≤◌, List, [], ◌∷◌, ◌++◌, map, length, slice_set, Option}
-use Rattle.std.proofs.Common.{refl, sym, ap, subst, ◌∙◌, arith, append_assoc}
+use Rattle.std.specs.Prelude.{◌≡◌, ℕ, ◌-◌, ◌<◌, ◌≤◌, List, [], ◌∷◌, ◌++◌, map, length, slice_set, Option}
+use Rattle.std.proofs.Common.{refl, sym, ap, subst, ◌∙◌}
 use Rattle.db_model.specs.declared.database.Database.{Database}
 use Rattle.db_model.specs.declared.element.Branch.{Branch}
 use Rattle.db_model.specs.declared.element.Case.{Case}
 use Rattle.db_model.specs.declared.element.Element.{Element}
 use Rattle.db_model.specs.declared.element.LoopKind.{LoopKind}
 use Rattle.db_model.specs.declared.expression.Expr.{Expr}
-use Rattle.db_model.specs.declared.field_kind.CaseRange.{CaseRange}
-use Rattle.db_model.specs.Numbering.{Counts, plus, a_block, counts_in}
+use Rattle.db_model.specs.Numbering.{plus, a_block, counts_in}
 use Rattle.pdl_code.specs.declared.code.Op.TheVariants.{End, Jump, Test, Switch, Block, Loop}
 use Rattle.pdl_code.specs.declared.place.Place.{Place}
 use Rattle.pdl_code.specs.declared.written.Bodies.{Bodies}
-use Rattle.pdl_code.specs.Coding.{Ops, ended, around, if_code, begins, switch_code, codes_in}
+use Rattle.pdl_code.specs.Coding.{Ops, ended, around, if_code, switch_code, codes_in}
 use Rattle.pdl_code.specs.Parts.{counts, Wrote, WroteBodies, case_range, counts_in_cases, counts_in_other, codes_in_cases, codes_in_other, ends, jumps_to, AllBelow}
 use Rattle.pdl_code.proofs.Elements.{plus_assoc}
-use Rattle.pdl_code.proofs.Room.{around_written, start_within, middle_within, start_first, if_written, ends_within, switch_start, switch_within, switch_written}
+use Rattle.pdl_code.proofs.Room.{around_written, middle_within, start_first, if_written, ends_within, switch_start, switch_within, switch_written}
 
 module _ (db : Database) (q : ℕ) where
   pub block_wrote : (xs : List Element) (ops now new : Ops) (start n : ℕ) (at inside to : Place) → start ≡ length ops → counts inside ≡ plus (counts at) a_block → Wrote (counts_in xs) (λ k. End ∷ ended (codes_in db q xs k)) ops now inside to → n ≡ length now → new ≡ slice_set now start (Block at.blocks (n - start - 1)) → Wrote (plus a_block (counts_in xs)) (λ k. around (Block k.blocks) (codes_in db q xs (plus k a_block))) ops new at to

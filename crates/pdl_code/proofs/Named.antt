@@ -16,7 +16,6 @@ use Rattle.db_model.specs.Runs.{Run, next, block}
 use Rattle.db_model.proofs.Accepted.{append_front, append_back}
 use Rattle.db_laws.proofs.Includes.{Each, Fits, FitsBlock, Undeclared}
 use Rattle.pdl_code.specs.declared.code.BlockStart.{BlockStart}
-use Rattle.pdl_code.specs.declared.code.Op.{Op}
 use Rattle.pdl_code.specs.declared.code.Op.TheVariants.{Include}
 use Rattle.pdl_code.specs.declared.code.ProtoCode.{ProtoCode}
 use Rattle.pdl_code.specs.Coding.{Ops, ended, block_count, include_code, include_of, codes_in, block_codes, block_starts, own_code, proto_code}

@@ -1,5 +1,5 @@
 -- Operations that are written over the room that was left for them.
-use Rattle.std.specs.Prelude.{◌≡◌, ℕ, ◌+◌, ◌-◌, ◌<◌, ◌≤◌, List, [], ◌∷◌, ◌++◌, length, slice_set, Result, Ok, Err, IfOk}
+use Rattle.std.specs.Prelude.{◌≡◌, ℕ, ◌+◌, ◌-◌, ◌<◌, ◌≤◌, List, [], ◌∷◌, ◌++◌, length, slice_set, Result, IfOk}
 use Rattle.std.proofs.Common.{refl, sym, ap, subst, ◌∙◌, arith, append_assoc, append-nil, length-append, length-set}
 use Rattle.std.proofs.Math.Seq.{set-append_seam}
 use Rattle.db_model.specs.declared.database.Database.{Database}
@@ -7,7 +7,7 @@ use Rattle.db_model.specs.declared.element.Element.{Element}
 use Rattle.db_model.specs.declared.expression.Expr.{Expr}
 use Rattle.db_model.specs.declared.field_kind.CaseRange.{CaseRange}
 use Rattle.db_model.specs.declared.no_memory.NoMemory.{NoMemory}
-use Rattle.db_model.specs.Numbering.{Counts, none, plus, counts_of}
+use Rattle.db_model.specs.Numbering.{Counts, none, counts_of}
 use Rattle.pdl_code.specs.declared.code.Op.{Op}
 use Rattle.pdl_code.specs.declared.code.Op.TheVariants.{End, Jump, Test, Switch}
 use Rattle.pdl_code.specs.declared.place.Place.{Place}
@@ -106,14 +106,14 @@ jumps_written (b ∷ bs) pre other from end f n =
     let d : end - (from + length b) - 1 ≡ length (bodies bs (length other)) + length other = omega (arith, f, n, lb, same_length bs (length other)) in
     let whole : pre ++ ((b ++ End ∷ open_bodies bs) ++ other) ≡ (pre ++ b) ++ End ∷ rest = ap (λ l. pre ++ l) (append_assoc b (End ∷ open_bodies bs) other) ∙ sym (append_assoc pre b (End ∷ rest)) in
     let one : slice_set (pre ++ ((b ++ End ∷ open_bodies bs) ++ other)) (from + length b) j ≡ pre' ++ rest =
-        ap (λ l. slice_set l (from + length b) j) whole
-        ∙ ap (λ k. slice_set ((pre ++ b) ++ End ∷ rest) k j) at
-        ∙ set-append_seam (pre ++ b) End rest j
-        ∙ sym (append_assoc (pre ++ b) (j ∷ []) rest) in
+    ap (λ l. slice_set l (from + length b) j) whole
+    ∙ ap (λ k. slice_set ((pre ++ b) ++ End ∷ rest) k j) at
+    ∙ set-append_seam (pre ++ b) End rest j
+    ∙ sym (append_assoc (pre ++ b) (j ∷ []) rest) in
     let last : pre' ++ (bodies bs (length other) ++ other) ≡ pre ++ ((b ++ j ∷ bodies bs (length other)) ++ other) =
-        append_assoc (pre ++ b) (j ∷ []) (bodies bs (length other) ++ other)
-        ∙ append_assoc pre b (j ∷ (bodies bs (length other) ++ other))
-        ∙ ap (λ l. pre ++ l) (sym (append_assoc b (j ∷ bodies bs (length other)) other)) in
+    append_assoc (pre ++ b) (j ∷ []) (bodies bs (length other) ++ other)
+    ∙ append_assoc pre b (j ∷ (bodies bs (length other) ++ other))
+    ∙ ap (λ l. pre ++ l) (sym (append_assoc b (j ∷ bodies bs (length other)) other)) in
     ap (λ l. jumps_to end (ends (from + length b + 1) bs) l) one
     ∙ jumps_written bs pre' other (from + length b + 1) end n' (omega (arith, n', f, n, lb))
     ∙ last
@@ -156,8 +156,8 @@ module _ (base c1 c2 c3 other : Ops) (cases : List Ops) (start : ℕ) (s : start
       let whole : c3 ≡ (base ++ End ∷ []) ++ (open_bodies cases ++ other) = e3 ∙ ap (λ l. l ++ other) (e2 ∙ ap (λ l. l ++ open_bodies cases) e1) ∙ append_assoc (base ++ End ∷ []) (open_bodies cases) other in
       let first : length c1 ≡ length (base ++ End ∷ []) = ap length e1 in
       let written : c4 ≡ (base ++ End ∷ []) ++ last =
-          e4 ∙ ap (λ l. jumps_to (length c3) (ends (length c1) cases) l) whole
-          ∙ jumps_written cases (base ++ End ∷ []) other (length c1) (length c3) first (omega (arith, k1, k2, k3, first)) in
+      e4 ∙ ap (λ l. jumps_to (length c3) (ends (length c1) cases) l) whole
+      ∙ jumps_written cases (base ++ End ∷ []) other (length c1) (length c3) first (omega (arith, k1, k2, k3, first)) in
       let d : middle - start - 1 ≡ length (bodies cases (length other)) = omega (arith, k1, k2, s, m, same_length cases (length other)) in
       ap (λ l. slice_set l start op) (written ∙ append_assoc base (End ∷ []) last)
       ∙ ap (λ k. slice_set (base ++ End ∷ last) k op) s

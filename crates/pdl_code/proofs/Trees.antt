@@ -1,15 +1,13 @@
 -- The operations of an element do what the element does, wherever they stand, where its numbers are in their limits and the operations of each included block do what that does.
-use Rattle.std.specs.Prelude.{◌≡◌, ℕ, Bool, true, false, not, ◌||◌, ◌&&◌, if◌then◌else◌, nat_le, nat_lt, ◌^◌, ◌==◌, List, [], ◌∷◌, ◌++◌, map, Option, Some, None}
+use Rattle.std.specs.Prelude.{◌≡◌, ℕ, Bool, true, false, not, ◌||◌, ◌&&◌, if◌then◌else◌, nat_le, nat_lt, ◌^◌, ◌==◌, List, [], ◌∷◌, ◌++◌, Option}
 use Rattle.std.proofs.Common.{refl, sym, ap, subst}
 use Rattle.db_model.specs.declared.database.Database.{Database}
 use Rattle.db_model.specs.declared.element.Element as element
 use Rattle.db_model.specs.declared.element.Element.{Element, Row_of-Element, end_of-Element, more_of-Element, Row_of-Case, end_of-Case, more_of-Case, Held-Element-Switch-3, None', Some'}
 use Rattle.db_model.specs.declared.element.FieldForm.{FieldForm}
 use Rattle.db_model.specs.declared.element.FieldForm.TheVariants as form
-use Rattle.db_model.specs.declared.field_kind.FieldKind.TheVariants.{Variable}
 use Rattle.db_model.specs.BlockFaults.{includes_step, includes_of, includes_in}
-use Rattle.db_model.specs.Elements.{field, number, does, means, parts, total, each, or_next, loop_by, Part}
-use Rattle.db_model.specs.Expression.{is_so}
+use Rattle.db_model.specs.Elements.{field, does, means, parts, total, each, or_next, Part}
 use Rattle.db_model.specs.Extent.{kind_of}
 use Rattle.db_model.specs.Folds.{CaseOf, BranchOf, ElementOf, fold_row, fold_cases, fold_held, noted_row, noted_cases, noted_held}
 use Rattle.db_model.specs.Forms.{is_between}
@@ -17,14 +15,14 @@ use Rattle.db_model.specs.Lines.{Lines, joined, over, over_option, at_line, insi
 use Rattle.db_model.specs.Names.{Text, variable_at, table_at}
 use Rattle.db_model.specs.NumberFaults.{own_43, form_is_outside}
 use Rattle.db_model.specs.Numbering.{Counts, plus, a_block, counts_of, all_names, case_names, branch_names}
-use Rattle.db_model.specs.Runs.{Run, evaluated, block}
+use Rattle.db_model.specs.Runs.{Run}
 use Rattle.db_model.specs.declared.limits.TheConstants.{MOST_BIT_SIZE, LEAST_ALIGNMENT, MOST_ALIGNMENT}
 use Rattle.db_model.proofs.Accepted.{append_front, append_back}
 use Rattle.db_laws.proofs.Includes.{Each, line_none}
 use Rattle.pdl_code.specs.declared.code.Op.TheVariants.{Field, SizedField, Assign, Update, NextProto, Leave}
 use Rattle.pdl_code.specs.declared.code.ProtoCode.{ProtoCode}
-use Rattle.pdl_code.specs.Coding.{Ops, Coded, all_in, codes, other_codes, is_sound, field_op, field_code, include_of, coded, code_of, coded_parts, codes_in}
-use Rattle.pdl_code.proofs.Choices.{CaseDoes, CasesDo, OtherDoes, one_switch}
+use Rattle.pdl_code.specs.Coding.{Ops, Coded, all_in, codes, other_codes, is_sound, field_op, field_code, include_of, coded, code_of, codes_in}
+use Rattle.pdl_code.proofs.Choices.{CasesDo, OtherDoes, one_switch}
 use Rattle.pdl_code.proofs.Pieces.{Piece, nothing, one_then, one_plain, one_block, one_loop, one_test}
 
 each_front : (P : Text → Type 0) (ms ns : List Text) → Each P (ms ++ ns) → Each P ms
@@ -121,7 +119,7 @@ module _ (db : Database) (q : ℕ) (fields : List Text) (code : ProtoCode) (incl
         let in_body : Lines = joined (fold_row Lines step_43 body) in
         let in_other : Lines = over_option (λ (b : BranchOf Lines). joined b.body) (fold_held Lines step_43 other) in
         let second : Piece db fields code (other_codes (held_codes other) (plus at (all_in (row_codes body)))) (or_next (held_parts other) (plus at (total (row_parts body)))) =
-            subst (λ n. Piece db fields code (other_codes (held_codes other) (plus at (all_in (row_codes body)))) (or_next (held_parts other) (plus at n))) (same_total body) (of_held other (each_back Included front back h) (append_back in_body in_other k) (plus at (all_in (row_codes body)))) in
+        subst (λ n. Piece db fields code (other_codes (held_codes other) (plus at (all_in (row_codes body)))) (or_next (held_parts other) (plus at n))) (same_total body) (of_held other (each_back Included front back h) (append_back in_body in_other k) (plus at (all_in (row_codes body)))) in
         one_test db fields code e (codes (row_codes body) at) (other_codes (held_codes other) (plus at (all_in (row_codes body)))) (each (row_parts body) at) (or_next (held_parts other) (plus at (total (row_parts body)))) (of_row body (each_front Included front back h) (append_front in_body in_other k) at) second
     of_element (element.Assign line name value) h k at = one_plain db fields code (Assign (variable_at db name) value) tt
     of_element (element.Update line table validity keep hit keys row) h k at = one_plain db fields code (Update (table_at db table) validity keep hit keys row) tt

@@ -1,13 +1,13 @@
 -- What emitting a protocol wrote, and what its code is.
 use Rattle.std.specs.Prelude.{◌≡◌, ℕ, ◌+◌, ◌-◌, ◌≤◌, List, [], ◌∷◌, ◌++◌, length, drop}
-use Rattle.std.proofs.Common.{refl, sym, ap, subst, ◌∙◌, arith, append_assoc, append-nil, length-append}
+use Rattle.std.proofs.Common.{sym, ap, subst, ◌∙◌, arith, append_assoc, append-nil, length-append}
 use Rattle.std.proofs.lemmas.List.{at_drop_all}
 use Rattle.db_model.specs.declared.database.Database.{Database}
 use Rattle.db_model.specs.declared.database.NamedBlock.{NamedBlock}
 use Rattle.db_model.specs.declared.database.Protocol.{Protocol}
 use Rattle.db_model.specs.declared.element.Element.{Element}
 use Rattle.db_model.specs.Chain.{elements_of, before_in, after_in}
-use Rattle.db_model.specs.Numbering.{Counts, none, plus, a_block, counts_of, counts_in, elements_in, fields_in, blocks_in}
+use Rattle.db_model.specs.Numbering.{Counts, none, plus, counts_of, counts_in, elements_in, fields_in, blocks_in}
 use Rattle.pdl_code.specs.declared.code.BlockStart.{BlockStart}
 use Rattle.pdl_code.specs.declared.code.Op.TheVariants.{End}
 use Rattle.pdl_code.specs.declared.code.ProtoCode.{ProtoCode}
@@ -53,11 +53,11 @@ own_wrote db q p ops o1 o2 o3 o4 new start a b c d at s w1 w2 w3 w4 e f g =
     let pf : at.fields ≡ (counts_in F).fields = omega (arith, f, bf) in
     let pb : at.blocks ≡ (counts_in F).blocks = omega (arith, g, bb) in
     let all : codes_in db q (elements_of p) (counts start) ≡ codes_in db q B (counts start) ++ (codes_in db q F (counts a) ++ (codes_in db q A (counts b) ++ codes_in db q E (counts c))) =
-        two_lists db q B (F ++ (A ++ E)) (counts start) (counts a) w1.place
-        ∙ ap (λ l. codes_in db q B (counts start) ++ l) (two_lists db q F (A ++ E) (counts a) (counts b) w2.place
-        ∙ ap (λ l. codes_in db q F (counts a) ++ l) (two_lists db q A E (counts b) (counts c) w3.place)) in
+    two_lists db q B (F ++ (A ++ E)) (counts start) (counts a) w1.place
+    ∙ ap (λ l. codes_in db q B (counts start) ++ l) (two_lists db q F (A ++ E) (counts a) (counts b) w2.place
+    ∙ ap (λ l. codes_in db q F (counts a) ++ l) (two_lists db q A E (counts b) (counts c) w3.place)) in
     let written : o4 ≡ (((ops ++ codes_in db q B (counts start)) ++ codes_in db q F (counts a)) ++ codes_in db q A (counts b)) ++ codes_in db q E (counts c) =
-        w4.ops ∙ ap (λ l. l ++ codes_in db q E (counts c)) (w3.ops ∙ ap (λ l. l ++ codes_in db q A (counts b)) (w2.ops ∙ ap (λ l. l ++ codes_in db q F (counts a)) w1.ops)) in
+    w4.ops ∙ ap (λ l. l ++ codes_in db q E (counts c)) (w3.ops ∙ ap (λ l. l ++ codes_in db q A (counts b)) (w2.ops ∙ ap (λ l. l ++ codes_in db q F (counts a)) w1.ops)) in
     record {
       place = λ i. record { fields = pf i; blocks = pb i };
       ops =

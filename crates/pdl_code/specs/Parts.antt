@@ -6,7 +6,6 @@ use Rattle.db_model.specs.declared.element.Case.{Case}
 use Rattle.db_model.specs.declared.field_kind.CaseRange.{CaseRange}
 use Rattle.db_model.specs.Numbering.{Counts, none, plus, counts_in}
 use Rattle.pdl_code.specs.declared.code.BlockStart.{BlockStart}
-use Rattle.pdl_code.specs.declared.code.Op.{Op}
 use Rattle.pdl_code.specs.declared.code.Op.TheVariants.{End, Jump}
 use Rattle.pdl_code.specs.declared.place.Place.{Place}
 use Rattle.pdl_code.specs.declared.written.Bodies.{Bodies}

@@ -31,17 +31,11 @@ fn element(
         Element::Block { body, .. } => block(alloc, db, protocol, body.as_slice(), at, ops),
         Element::IncludeBlock { name, .. } => leaf::include(db, protocol, name, at, ops),
         Element::Loop {
-            kind, expr, body, ..
-        } => looped(
-            alloc,
-            db,
-            protocol,
-            body.as_slice(),
-            *kind,
+            kind,
             expr,
-            at,
-            ops,
-        ),
+            body,
+            ..
+        } => looped(alloc, db, protocol, body.as_slice(), *kind, expr, at, ops),
         Element::LoopCtrl { kind, .. } => leaf::put(Op::Leave { kind: *kind }, at, ops),
         Element::Switch {
             expr,

@@ -8,7 +8,10 @@ ghost use Rattle.pdl_code.specs.Parts.{Wrote};
 
 use crate::place::Place;
 use crate::{Op, SoundKind, copy};
-use db_model::{CheckedDb, Expr, FieldForm, FieldKind, LEAST_ALIGNMENT, MOST_ALIGNMENT, MOST_BIT_SIZE, Name, NoMemory, Protocol, UpdateKey, UpdateValue, Validity};
+use db_model::{
+    CheckedDb, Expr, FieldForm, FieldKind, LEAST_ALIGNMENT, MOST_ALIGNMENT, MOST_BIT_SIZE, Name,
+    NoMemory, Protocol, UpdateKey, UpdateValue, Validity,
+};
 use sqlite_items::Items;
 use std::alloc::Global;
 

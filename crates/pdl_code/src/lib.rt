@@ -4,18 +4,14 @@
 #![tactic(auto)]
 
 mod code;
-mod protocols;
 mod copy;
 mod emit;
 mod leaf;
 mod place;
+mod protocols;
 mod sound;
 mod written;
 
-pub use code::BlockStart;
-pub use code::Code;
-pub use code::Op;
-pub use code::ProtoCode;
+pub use code::{BlockStart, Code, Op, ProtoCode};
 pub use protocols::compile;
-pub use sound::Ranges;
-pub use sound::SoundKind;
+pub use sound::{Ranges, SoundKind};
