@@ -118,7 +118,7 @@ pub fn elements(out: &mut Outline, elements: &Items<Element>) -> Result<(), NoMe
 }
 
 #[cycle(elements)]
-fn cases(out: &mut Outline, cases: &Items<Case>) -> Result<(), NoMemory> {
+fn all_cases(out: &mut Outline, cases: &Items<Case>) -> Result<(), NoMemory> {
     for case in cases.as_slice() {
         out.begin("case", case.line)?;
         out.number(case.value)?;
@@ -137,34 +137,6 @@ fn branch(out: &mut Outline, kind: &str, branch: &Option<Branch>) -> Result<(), 
         }
         None => Ok(()),
     }
-}
-
-#[cycle(elements)]
-fn switch(
-    out: &mut Outline,
-    expr: &Expr,
-    all: &Items<Case>,
-    otherwise: &Option<Branch>,
-) -> Result<(), NoMemory> {
-    out.expr(expr)?;
-    out.end_line()?;
-    cases(out, all)?;
-    branch(out, "default", otherwise)?;
-    out.end()
-}
-
-#[cycle(elements)]
-fn condition(
-    out: &mut Outline,
-    true_line: u32,
-    if_true: &Items<Element>,
-    if_false: &Option<Branch>,
-) -> Result<(), NoMemory> {
-    out.end_line()?;
-    out.begin("if-true", true_line)?;
-    elements(out, if_true)?;
-    branch(out, "if-false", if_false)?;
-    out.end()
 }
 
 #[cycle(elements)]
@@ -217,7 +189,11 @@ fn element(out: &mut Outline, e: &Element) -> Result<(), NoMemory> {
             otherwise,
         } => {
             out.begin("switch", *line)?;
-            switch(out, expr, cases, otherwise)
+            out.expr(expr)?;
+            out.end_line()?;
+            all_cases(out, cases)?;
+            branch(out, "default", otherwise)?;
+            out.end()
         }
         Element::If {
             line,
@@ -228,7 +204,11 @@ fn element(out: &mut Outline, e: &Element) -> Result<(), NoMemory> {
         } => {
             out.begin("if", *line)?;
             out.expr(expr)?;
-            condition(out, *true_line, if_true, if_false)
+            out.end_line()?;
+            out.begin("if-true", *true_line)?;
+            elements(out, if_true)?;
+            branch(out, "if-false", if_false)?;
+            out.end()
         }
         Element::Assign { line, name, value } => {
             out.begin("assign-variable", *line)?;
