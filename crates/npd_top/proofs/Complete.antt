@@ -2,17 +2,16 @@
 use Rattle.std.proofs.Common.{◌≡◌, ℕ, List, Option, Some, None, refl, sym, ◌∙◌, inl, inr, ◌⊎◌, IfSome}
 use Rattle.db_model.specs.declared.packet.Packet.{Packet}
 use Rattle.npd_host.specs.declared.host.CallKind.TheVariants as call
-use Rattle.pcap_in.specs.Capture.{cap}
 use Rattle.npd_top.specs.declared.plan.Plan.{Plan}
 use Rattle.npd_top.specs.declared.simple.SimpleProtocol.{SimpleProtocol}
 use Rattle.npd_top.specs.declared.status.Role.TheVariants.{Db, Cap, Pdml}
 use Rattle.npd_top.specs.declared.status.Part.TheVariants as part
 use Rattle.npd_top.specs.declared.status.Status.{Status}
 use Rattle.npd_top.specs.declared.status.Status.TheVariants.{Done, Open, Read, Write, NoMemory, Unbuilt}
-use Rattle.npd_top.specs.Capture.{IsWhole}
+use Rattle.npd_top.specs.Capture.{IsServed}
 use Rattle.npd_top.specs.Laws.{NoneRose, EndsWell}
 use Rattle.npd_top.specs.Outside.{Outside}
-use Rattle.npd_top.specs.Run.{HasBoth, IsNotSimple, IsNotWhole, Says, HasCause, RunsPlan}
+use Rattle.npd_top.specs.Run.{HasBoth, IsNotSimple, IsNotServed, Says, HasCause, RunsPlan}
 use Rattle.npd_top.specs.SimpleText.{IsSimple}
 use Rattle.npd_top.specs.Words.{Asks, words_of}
 
@@ -25,11 +24,11 @@ not_simple None text db e is none = absurd (none_is_some e)
 not_simple (Some t) text db e is none = let same : text ≡ t = cc in none db (rw (← same) is)
 
 -- what a capture isn't, where it is told
-not_whole : (file : Option (List ℕ)) (bytes : List ℕ) (packets : List Packet) → file ≡ Some bytes → IsWhole 4294967295 (cap bytes) packets → IfSome file IsNotWhole → ⊥
-not_whole None bytes packets e is none = absurd (none_is_some e)
-not_whole (Some b) bytes packets e is none = let same : bytes ≡ b = cc in none packets (rw (← same) is)
+not_served : (file : Option (List ℕ)) (bytes : List ℕ) (packets : List Packet) → file ≡ Some bytes → IsServed 4294967295 bytes packets → IfSome file IsNotServed → ⊥
+not_served None bytes packets e is none = absurd (none_is_some e)
+not_served (Some b) bytes packets e is none = let same : bytes ≡ b = cc in none packets (rw (← same) is)
 
--- a plan whose files are a simple database and a whole capture, and no count rose
+-- a plan whose files are a simple database and a capture that is served, and no count rose
 ends_well : (status : Status) (plan : Plan) (before after : Outside) (text bytes : List ℕ) → before.files plan.db ≡ Some text → before.files plan.cap ≡ Some bytes → HasBoth text bytes → NoneRose before after → Says status plan before after → HasCause status plan before after → (status ≡ Done) ⊎ (status ≡ NoMemory)
 ends_well Done plan before after text bytes d c both none says cause = inl refl
 ends_well (Open Db) plan before after text bytes d c both none says cause = absurd (none call.OpenIn plan.db cause)
@@ -46,7 +45,7 @@ ends_well (Unbuilt part.Words) plan before after text bytes d c both none says c
 ends_well (Unbuilt part.Database) plan before after text bytes d c both none says cause =
     absurd (not_simple (before.files plan.db) text both.db d both.db_is says.1)
 ends_well (Unbuilt part.Capture) plan before after text bytes d c both none says cause =
-    absurd (not_whole (before.files plan.cap) bytes both.packets c both.packets_are says.2)
+    absurd (not_served (before.files plan.cap) bytes both.packets c both.packets_are says.2)
 
 -- the plan that words ask for is the only one
 same_names : (a b c x y z : List ℕ) → words_of a b c ≡ words_of x y z → (x ≡ a) × (y ≡ b) × (z ≡ c)

@@ -19,7 +19,7 @@ refusal failed host.NoMemory = NoMemory
 
 -- the status for each failure of a reader of captures
 abbrev pub capture_status : CapFail → Status
-capture_status fail.Broken = Unbuilt part.Capture
+capture_status (fail.Broken offset code) = Unbuilt part.Capture
 capture_status fail.ReadFault = Read Cap
 capture_status fail.NoMemory = NoMemory
 

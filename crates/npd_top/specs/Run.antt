@@ -3,14 +3,13 @@ use Rattle.std.specs.Prelude.{◌≡◌, ◌⊎◌, ℕ, List, [], ◌∷◌, �
 use Rattle.db_model.specs.declared.packet.Packet.{Packet}
 use Rattle.npd_host.specs.declared.host.CallKind.TheVariants as call
 use Rattle.npd_host.specs.Host.{Rose}
-use Rattle.pcap_in.specs.Capture.{cap}
 use Rattle.npd_top.specs.declared.plan.Plan.{Plan}
 use Rattle.npd_top.specs.declared.simple.SimpleProtocol.{SimpleProtocol}
 use Rattle.npd_top.specs.declared.status.Role.TheVariants.{Db, Cap, Pdml}
 use Rattle.npd_top.specs.declared.status.Part.TheVariants as part
 use Rattle.npd_top.specs.declared.status.Status.{Status}
 use Rattle.npd_top.specs.declared.status.Status.TheVariants.{Done, Open, Read, Write, NoMemory, Unbuilt}
-use Rattle.npd_top.specs.Capture.{IsWhole}
+use Rattle.npd_top.specs.Capture.{IsServed}
 use Rattle.npd_top.specs.Outside.{Outside, Opened}
 use Rattle.npd_top.specs.Pdml.{whole_text}
 use Rattle.npd_top.specs.SimpleText.{IsSimple}
@@ -27,9 +26,9 @@ pub record FrontOf (most : ℕ) (front whole : List ℕ) : Type 0 where
 abbrev pub IsNotSimple : List ℕ → Type 0
 IsNotSimple text = (db : List SimpleProtocol) → IsSimple text db → ⊥
 
--- no whole capture of at most 4,294,967,295 packets is written so
-abbrev pub IsNotWhole : List ℕ → Type 0
-IsNotWhole bytes = (packets : List Packet) → IsWhole 4294967295 (cap bytes) packets → ⊥
+-- no capture that is served, of at most 4,294,967,295 packets, is written so
+abbrev pub IsNotServed : List ℕ → Type 0
+IsNotServed bytes = (packets : List Packet) → IsServed 4294967295 bytes packets → ⊥
 
 -- what a database file is, by how the loading of it ended
 abbrev pub DatabaseIs : Result (List SimpleProtocol) Status → List ℕ → Type 0
@@ -42,18 +41,18 @@ pub record HasDatabase (text : List ℕ) : Type 0 where
   pub db : List SimpleProtocol
   pub is : IsSimple text db
 
--- a simple database and a whole capture of at most 4,294,967,295 packets
+-- a simple database and a capture that is served, of at most 4,294,967,295 packets
 pub record HasBoth (text bytes : List ℕ) : Type 0 where
   pub db : List SimpleProtocol
   pub db_is : IsSimple text db
   pub packets : List Packet
-  pub packets_are : IsWhole 4294967295 (cap bytes) packets
+  pub packets_are : IsServed 4294967295 bytes packets
 
 -- the database file, where it is told, is simple
 abbrev pub FindsDatabase : Plan → Outside → Type 0
 FindsDatabase plan before = IfSome (before.files plan.db) HasDatabase
 
--- the files, where they are told, are a simple database and a whole capture, and this holds of their PDML text
+-- the files, where they are told, are a simple database and a capture that is served, and this holds of their PDML text
 abbrev pub FindsBoth : Plan → Outside → (List ℕ → Type 0) → Type 0
 FindsBoth plan before Holds =
     IfSome (before.files plan.db) (λ text.
@@ -82,7 +81,7 @@ Says (Unbuilt part.Words) plan before after = ⊥
 Says (Unbuilt part.Database) plan before after =
     WroteNothing before after × IfSome (before.files plan.db) IsNotSimple
 Says (Unbuilt part.Capture) plan before after =
-    WroteNothing before after × FindsDatabase plan before × IfSome (before.files plan.cap) IsNotWhole
+    WroteNothing before after × FindsDatabase plan before × IfSome (before.files plan.cap) IsNotServed
 
 -- which files were opened, whatever the host tells: the database first, the capture only behind an accepted database,
 -- the output only behind a whole capture
