@@ -1,4 +1,5 @@
 pub mod Binds
+pub mod Captures
 pub mod Chains
 pub mod Complete
 pub mod Consistency
