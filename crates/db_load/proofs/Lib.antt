@@ -1,4 +1,12 @@
+mod Clean
 mod Each
+mod Formed
+mod Least
 mod Means
 mod NoLiteral
+mod OneAnswer
 mod Parts
+mod Shaped
+mod Stands
+mod Trees
+mod ValueForms

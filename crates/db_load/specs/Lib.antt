@@ -1,6 +1,7 @@
 pub mod Answer
 pub mod Faults
 pub mod Forms
+pub mod Laws
 pub mod Meaning
 pub mod Parsed
 pub mod Rules

@@ -1,6 +1,7 @@
 //! The database that a text is. `load_database` gives it exactly where the text has elements without a fault of
-//! shape; else the line and the code of the fault: the text's, or of all faults of shape the one of the least line,
-//! and there of the least code. What may stand where, with what attributes, is one table (`rules`, `children`).
+//! shape, and then it is shaped; else the line and the code of the fault: the text's, or of all faults of shape the
+//! one of the least line, and there of the least code. What may stand where, with what attributes, is one table
+//! (`rules`, `children`). `laws` has what holds of every answer.
 #![tactic(auto)]
 
 mod attribute;
@@ -12,6 +13,7 @@ mod expression;
 mod form;
 mod from_node;
 mod kind;
+pub mod laws;
 mod levels;
 mod load;
 mod number;

@@ -1,5 +1,8 @@
+ghost use Rattle.std.specs.Prelude.{◌≡◌, IfOk, true};
+ghost use Rattle.db_model.specs.Shape.{is_shaped};
 ghost use Rattle.db_load.specs.Answer.{Answers, Judges};
 
+use crate::laws::loaded_is_shaped;
 use crate::protocol::database_of;
 use crate::walk::refusal;
 use db_model::{Database, DbFail, Fault};
@@ -8,8 +11,10 @@ use std::alloc::Global;
 
 /// The database that a top element means, or the fault that is answered.
 fn judged(alloc: Global, node: &Node) -> Result<Database, DbFail>
-    ensures { Judges node.now result }
+    ensures judged { Judges node.now result }
+    ensures shaped { IfOk result (λ db. is_shaped db ≡ true) }
 {
+    loaded_is_shaped();
     match refusal(alloc, node)? {
         Some(Fault { line, code }) => Err(DbFail::Fault { line, code }),
         None => Ok(database_of(alloc, node)?),
@@ -17,9 +22,10 @@ fn judged(alloc: Global, node: &Node) -> Result<Database, DbFail>
 }
 
 /// The database that a text is; else the line and the code of the fault that is answered: that of the text, or
-/// of all faults of shape the one of the least line, and there of the least code.
+/// of all faults of shape the one of the least line, and there of the least code. A database that is given is shaped.
 pub fn load_database(alloc: Global, text: &[u8]) -> Result<Database, DbFail>
-    ensures { Answers text.now result }
+    ensures answer { Answers text.now result }
+    ensures shaped { IfOk result (λ db. is_shaped db ≡ true) }
 {
     match read_elements(alloc, text) {
         Ok(node) => judged(alloc, &node),

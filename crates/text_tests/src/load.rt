@@ -1,10 +1,10 @@
 use db_load::load_database;
-use db_model::NoMemory;
+use db_model::{DbFail, NoMemory};
 use std::alloc::{AllocError, Global};
 use std::test::Fail;
 
 /// The line and the code of a database's fault.
-type Fault = Option<(u32, u8)>;
+pub type Fault = Option<(u32, u8)>;
 
 /// Texts with their faults, or none where they are databases.
 const CASES: [(&[u8], Fault); 38] = [
@@ -127,7 +127,7 @@ const CASES: [(&[u8], Fault); 38] = [
 const DEPTHS: [(usize, Fault); 2] = [(28, None), (29, Some((30, 26)))];
 
 /// Whether a text has exactly this fault, or none.
-fn has_fault(alloc: Global, text: &[u8], fault: Fault) -> Result<bool, NoMemory> {
+pub fn has_fault(alloc: Global, text: &[u8], fault: Fault) -> Result<bool, NoMemory> {
     match load_database(alloc, text) {
         Ok(_) => Ok(fault.is_none()),
         Err(DbFail::Fault { line, code }) => Ok(fault == Some((line, code))),
