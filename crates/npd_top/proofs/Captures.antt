@@ -3,10 +3,10 @@ use Rattle.std.proofs.Common.{◌≡◌, true, ℕ, List, Option, Some, None, Re
 use Rattle.db_model.specs.declared.packet.Packet.{Packet}
 use Rattle.pcap_in.specs.declared.form.Form.{Form}
 use Rattle.pcap_in.specs.Capture.{Seen, header, cap}
-use Rattle.npd_top.specs.declared.status.Role.TheVariants.{Db, Cap, Pdml}
+use Rattle.npd_top.specs.declared.status.Role.TheVariants.{Db, Cap, Pdml, Out}
 use Rattle.npd_top.specs.declared.status.Part.TheVariants as part
 use Rattle.npd_top.specs.declared.status.Status.{Status}
-use Rattle.npd_top.specs.declared.status.Status.TheVariants.{Done, Open, Read, Write, NoMemory, Unbuilt}
+use Rattle.npd_top.specs.declared.status.Status.TheVariants.{Done, Open, Read, Write, Database, NoMemory, Unbuilt}
 use Rattle.npd_top.specs.Capture.{is_served, PacketsAre, CaptureIs}
 
 served_of : (most : ℕ) (bytes : List ℕ) (form : Form) (result : Result (List Packet) Status) → header bytes ≡ Ok form → is_served form ≡ true → PacketsAre most result (cap bytes) → CaptureIs most result bytes
@@ -16,6 +16,8 @@ served_of most bytes form (Err (Open role)) form_is served is = absurd is
 served_of most bytes form (Err (Read Db)) form_is served is = absurd is
 served_of most bytes form (Err (Read Cap)) form_is served is = tt
 served_of most bytes form (Err (Read Pdml)) form_is served is = absurd is
+served_of most bytes form (Err (Read Out)) form_is served is = absurd is
+served_of most bytes form (Err (Database line code)) form_is served is = absurd is
 served_of most bytes form (Err (Write role)) form_is served is = absurd is
 served_of most bytes form (Err NoMemory) form_is served is = tt
 served_of most bytes form (Err (Unbuilt part.Words)) form_is served is = absurd is
