@@ -67,7 +67,7 @@ fn run_check<H: Host>(alloc: Global, host: &mut H, files: &CheckFiles) -> Status
     };
     match write_line(host, line.as_slice()) {
         Ok(()) => Status::Done,
-        Err(ended) => ended,
+        Err(status) => status,
     }
 }
 

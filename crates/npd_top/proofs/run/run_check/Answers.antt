@@ -22,7 +22,7 @@ returns-clause-says g c =
     let after = seen g.H.Host c.write_line.new.host in
     let database = rw c.as_str.ensures at c.in-Ok.ensures.database in
     let written = rw (c.as_slice.ensures.value, c.in-Ok-count_line.ensures, c.database.ensures.database, c.in-Ok.ensures.frame.outputs) at c.in-Err-write_line.ensures.writes in
-    says_line c.in-Err-write_line.ended files before after c.in-Ok.db database written
+    says_line c.in-Err-write_line.status files before after c.in-Ok.db database written
 
 pub returns-clause-opens : goal.returns-clause-opens
 returns-clause-opens g c =
@@ -31,4 +31,4 @@ returns-clause-opens g c =
     let after = seen g.H.Host c.write_line.new.host in
     let read = rw c.as_str.ensures at c.in-Ok.ensures.opens in
     let wrote = rw c.in-Ok.ensures.frame.outputs at c.in-Err-write_line.ensures.writes in
-    opens_line c.in-Err-write_line.ended files before after _ _ (ap (λ (o : Outputs). o.opened) c.in-Ok.ensures.frame.outputs) wrote (ap (λ (i : Inputs). i.opened) c.in-Err-write_line.ensures.frame.inputs ∙ read) c.in-Err-write_line.ensures.opens
+    opens_line c.in-Err-write_line.status files before after _ _ (ap (λ (o : Outputs). o.opened) c.in-Ok.ensures.frame.outputs) wrote (ap (λ (i : Inputs). i.opened) c.in-Err-write_line.ensures.frame.inputs ∙ read) c.in-Err-write_line.ensures.opens
