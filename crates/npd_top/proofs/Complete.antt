@@ -1,74 +1,129 @@
 -- Where nothing stands in the way, a run ends well.
-use Rattle.std.proofs.Common.{◌≡◌, ℕ, List, Option, Some, None, refl, sym, ◌∙◌, inl, inr, ◌⊎◌, IfSome}
+use Rattle.std.proofs.Common.{◌≡◌, ℕ, List, Option, Some, None, refl, sym, ap, ◌∙◌, inl, inr, ◌⊎◌, ⊎_elim, IfSome}
+use Rattle.std.specs.Prelude.{codes}
+use Rattle.db_model.specs.declared.database.Database as model
 use Rattle.db_model.specs.declared.packet.Packet.{Packet}
+use Rattle.db_model.specs.Objection.{objection}
 use Rattle.npd_host.specs.declared.host.CallKind.TheVariants as call
-use Rattle.pcap_in.specs.Capture.{cap}
+use Rattle.npd_top.specs.declared.plan.CheckFiles.{CheckFiles}
+use Rattle.npd_top.specs.declared.plan.DecodeFiles.{DecodeFiles}
 use Rattle.npd_top.specs.declared.plan.Plan.{Plan}
+use Rattle.npd_top.specs.declared.plan.Plan.TheVariants.{Decode, Check}
 use Rattle.npd_top.specs.declared.simple.SimpleProtocol.{SimpleProtocol}
-use Rattle.npd_top.specs.declared.status.Role.TheVariants.{Db, Cap, Pdml}
+use Rattle.npd_top.specs.declared.status.Role.TheVariants.{Db, Cap, Pdml, Out}
 use Rattle.npd_top.specs.declared.status.Part.TheVariants as part
 use Rattle.npd_top.specs.declared.status.Status.{Status}
-use Rattle.npd_top.specs.declared.status.Status.TheVariants.{Done, Open, Read, Write, NoMemory, Unbuilt}
-use Rattle.npd_top.specs.Capture.{IsWhole}
-use Rattle.npd_top.specs.Laws.{NoneRose, EndsWell}
+use Rattle.npd_top.specs.declared.status.Status.TheVariants.{Done, Open, Read, Write, Database, NoMemory, Unbuilt}
+use Rattle.npd_top.specs.Capture.{IsServed}
+use Rattle.npd_top.specs.CheckRun.{IsAccepted, HasAccepted, IsRefused, CheckSays}
+use Rattle.npd_top.specs.DecodeRun.{HasBoth, IsNotSimple, IsNotServed, DecodeSays}
+use Rattle.npd_top.specs.Laws.{NoneRose, CanDecode, CanCheck, CanServe, EndsWell}
 use Rattle.npd_top.specs.Outside.{Outside}
-use Rattle.npd_top.specs.Run.{HasBoth, IsNotSimple, IsNotWhole, Says, HasCause, RunsPlan}
+use Rattle.npd_top.specs.Run.{HasCause, Says, RunsPlan}
 use Rattle.npd_top.specs.SimpleText.{IsSimple}
-use Rattle.npd_top.specs.Words.{Asks, words_of}
+use Rattle.npd_top.specs.Words.{Asks, decode_words, check_words}
+use Rattle.db_load.specs.Laws.{OneDatabase, ExcludesFault}
 
 none_is_some : {A : Type 0} {a : A} → ◌≡◌ {A = Option A} None (Some a) → ⊥
 none_is_some e = cc
 
--- what a database file isn't, where it is told
-not_simple : (file : Option (List ℕ)) (text : List ℕ) (db : List SimpleProtocol) → file ≡ Some text → IsSimple text db → IfSome file IsNotSimple → ⊥
-not_simple None text db e is none = absurd (none_is_some e)
-not_simple (Some t) text db e is none = let same : text ≡ t = cc in none db (rw (← same) is)
+-- what a file isn't, where it is told
+not_so : (file : Option (List ℕ)) (text : List ℕ) (P : List ℕ → Type 0) → file ≡ Some text → (P text → ⊥) → IfSome file P → ⊥
+not_so None text P e none is = absurd (none_is_some e)
+not_so (Some t) text P e none is = let same : t ≡ text = cc in none (rw (← same) is)
 
--- what a capture isn't, where it is told
-not_whole : (file : Option (List ℕ)) (bytes : List ℕ) (packets : List Packet) → file ≡ Some bytes → IsWhole 4294967295 (cap bytes) packets → IfSome file IsNotWhole → ⊥
-not_whole None bytes packets e is none = absurd (none_is_some e)
-not_whole (Some b) bytes packets e is none = let same : bytes ≡ b = cc in none packets (rw (← same) is)
+-- a text has one answer
+record OneAnswer : Type 0 where
+  databases : OneDatabase
+  faults : ExcludesFault
 
--- a plan whose files are a simple database and a whole capture, and no count rose
-ends_well : (status : Status) (plan : Plan) (before after : Outside) (text bytes : List ℕ) → before.files plan.db ≡ Some text → before.files plan.cap ≡ Some bytes → HasBoth text bytes → NoneRose before after → Says status plan before after → HasCause status plan before after → (status ≡ Done) ⊎ (status ≡ NoMemory)
-ends_well Done plan before after text bytes d c both none says cause = inl refl
-ends_well (Open Db) plan before after text bytes d c both none says cause = absurd (none call.OpenIn plan.db cause)
-ends_well (Open Cap) plan before after text bytes d c both none says cause = absurd (none call.OpenIn plan.cap cause)
-ends_well (Open Pdml) plan before after text bytes d c both none says cause = absurd (none call.OpenOut plan.pdml cause)
-ends_well (Read Db) plan before after text bytes d c both none says cause = absurd (none call.Read plan.db cause)
-ends_well (Read Cap) plan before after text bytes d c both none says cause = absurd (none call.Read plan.cap cause)
-ends_well (Read Pdml) plan before after text bytes d c both none says cause = absurd says
-ends_well (Write Db) plan before after text bytes d c both none says cause = absurd says
-ends_well (Write Cap) plan before after text bytes d c both none says cause = absurd says
-ends_well (Write Pdml) plan before after text bytes d c both none says cause = absurd (none call.Write plan.pdml cause)
-ends_well NoMemory plan before after text bytes d c both none says cause = inr refl
-ends_well (Unbuilt part.Words) plan before after text bytes d c both none says cause = absurd says
-ends_well (Unbuilt part.Database) plan before after text bytes d c both none says cause =
-    absurd (not_simple (before.files plan.db) text both.db d both.db_is says.1)
-ends_well (Unbuilt part.Capture) plan before after text bytes d c both none says cause =
-    absurd (not_whole (before.files plan.cap) bytes both.packets c both.packets_are says.2)
+not_refused : OneAnswer → (text : List ℕ) (db : model.Database) (line code : ℕ) → IsAccepted text db → IsRefused text line code → ⊥
+not_refused one text db line code is refused =
+    ⊎_elim (λ fault. one.faults text db line code is.loaded fault)
+    (λ objected.
+    let same = one.databases text objected.db db objected.loaded is.loaded in
+    let objected_is = objected.objected in
+    let accepted_is = is.accepted in
+    none_is_some (sym accepted_is ∙ ap objection (sym same) ∙ objected_is)) refused
 
--- the plan that words ask for is the only one
-same_names : (a b c x y z : List ℕ) → words_of a b c ≡ words_of x y z → (x ≡ a) × (y ≡ b) × (z ≡ c)
+-- a decode that can be served, and no count rose
+decode_ends : (status : Status) (files : DecodeFiles) (before after : Outside) → CanDecode files before → NoneRose before after → DecodeSays status files before after → HasCause status (Decode files) before after → (status ≡ Done) ⊎ (status ≡ NoMemory)
+decode_ends Done files before after can none says cause = inl refl
+decode_ends (Open Db) files before after can none says cause = absurd (none call.OpenIn files.db cause)
+decode_ends (Open Cap) files before after can none says cause = absurd (none call.OpenIn files.cap cause)
+decode_ends (Open Pdml) files before after can none says cause = absurd (none call.OpenOut files.pdml cause)
+decode_ends (Open Out) files before after can none says cause = absurd says
+decode_ends (Read Db) files before after can none says cause = absurd (none call.Read files.db cause)
+decode_ends (Read Cap) files before after can none says cause = absurd (none call.Read files.cap cause)
+decode_ends (Read Pdml) files before after can none says cause = absurd says
+decode_ends (Read Out) files before after can none says cause = absurd says
+decode_ends (Write Db) files before after can none says cause = absurd says
+decode_ends (Write Cap) files before after can none says cause = absurd says
+decode_ends (Write Pdml) files before after can none says cause = absurd (none call.Write files.pdml cause)
+decode_ends (Write Out) files before after can none says cause = absurd says
+decode_ends (Database line code) files before after can none says cause = absurd says
+decode_ends NoMemory files before after can none says cause = inr refl
+decode_ends (Unbuilt part.Words) files before after can none says cause = absurd says
+decode_ends (Unbuilt part.Database) files before after can none says cause =
+    absurd (not_so (before.files files.db) can.text IsNotSimple can.db_is (λ is. is can.both.db can.both.db_is) says.1)
+decode_ends (Unbuilt part.Capture) files before after can none says cause =
+    absurd (not_so (before.files files.cap) can.bytes IsNotServed can.cap_is (λ is. is can.both.packets can.both.packets_are) says.2)
+
+-- a check that can be served, and no count rose
+check_ends : OneAnswer → (status : Status) (files : CheckFiles) (before after : Outside) → CanCheck files before → NoneRose before after → CheckSays status files before after → HasCause status (Check files) before after → (status ≡ Done) ⊎ (status ≡ NoMemory)
+check_ends one Done files before after can none says cause = inl refl
+check_ends one (Open Db) files before after can none says cause = absurd (none call.OpenIn files.db cause)
+check_ends one (Open Cap) files before after can none says cause = absurd says
+check_ends one (Open Pdml) files before after can none says cause = absurd says
+check_ends one (Open Out) files before after can none says cause = absurd (none call.OpenOut (codes "-") cause)
+check_ends one (Read Db) files before after can none says cause = absurd (none call.Read files.db cause)
+check_ends one (Read Cap) files before after can none says cause = absurd says
+check_ends one (Read Pdml) files before after can none says cause = absurd says
+check_ends one (Read Out) files before after can none says cause = absurd says
+check_ends one (Write Db) files before after can none says cause = absurd says
+check_ends one (Write Cap) files before after can none says cause = absurd says
+check_ends one (Write Pdml) files before after can none says cause = absurd says
+check_ends one (Write Out) files before after can none says cause = absurd (none call.Write (codes "-") cause)
+check_ends one (Database line code) files before after can none says cause =
+    absurd (not_so (before.files files.db) can.text (λ text. IsRefused text line code) can.db_is (not_refused one can.text can.accepted.db line code can.accepted.is) says.1)
+check_ends one NoMemory files before after can none says cause = inr refl
+check_ends one (Unbuilt which) files before after can none says cause = absurd says
+
+-- words ask for one plan only
+same_names : (a b c x y z : List ℕ) → decode_words a b c ≡ decode_words x y z → (x ≡ a) × (y ≡ b) × (z ≡ c)
 same_names a b c x y z e = (cc, cc, cc)
 
-runs_well : (status : Status) (words : List (List ℕ)) (before after : Outside) (plan : Plan) (text bytes : List ℕ) → RunsPlan status words before after → Asks words plan → before.files plan.db ≡ Some text → before.files plan.cap ≡ Some bytes → HasBoth text bytes → NoneRose before after → (status ≡ Done) ⊎ (status ≡ NoMemory)
-runs_well status words before after plan text bytes runs asked d c both none =
-    let same = same_names plan.db plan.cap plan.pdml runs.plan.db runs.plan.cap runs.plan.pdml (sym asked.words_are ∙ runs.asked.words_are) in
-    ends_well status runs.plan before after text bytes (rw same.0 d) (rw same.1 c) both none runs.says runs.cause
+same_name : (a x : List ℕ) → check_words a ≡ check_words x → x ≡ a
+same_name a x e = cc
+
+other_words : (a b c x : List ℕ) → decode_words a b c ≡ check_words x → ⊥
+other_words a b c x e = cc
+
+plan_ends : OneAnswer → (status : Status) (words : List (List ℕ)) (plan other : Plan) (before after : Outside) → Asks words plan → Asks words other → CanServe plan before → NoneRose before after
+    → Says status other before after → HasCause status other before after → (status ≡ Done) ⊎ (status ≡ NoMemory)
+plan_ends one status words (Decode a) (Decode b) before after asked asks can none says cause =
+    let same = same_names a.db a.cap a.pdml b.db b.cap b.pdml (sym asked.words_are ∙ asks.words_are) in
+    decode_ends status b before after (record { text = can.text; bytes = can.bytes; db_is = rw same.0 can.db_is; cap_is = rw same.1 can.cap_is; both = can.both }) none says cause
+plan_ends one status words (Decode a) (Check b) before after asked asks can none says cause =
+    absurd (other_words a.db a.cap a.pdml b.db (sym asked.words_are ∙ asks.words_are))
+plan_ends one status words (Check a) (Decode b) before after asked asks can none says cause =
+    absurd (other_words b.db b.cap b.pdml a.db (sym asks.words_are ∙ asked.words_are))
+plan_ends one status words (Check a) (Check b) before after asked asks can none says cause =
+    let same = same_name a.db b.db (sym asked.words_are ∙ asks.words_are) in
+    check_ends one status b before after (record { text = can.text; db_is = rw same can.db_is; accepted = can.accepted }) none says cause
+
+runs_well : OneAnswer → (status : Status) (words : List (List ℕ)) (before after : Outside) (plan : Plan) → RunsPlan status words before after → Asks words plan → CanServe plan before → NoneRose before after → (status ≡ Done) ⊎ (status ≡ NoMemory)
+runs_well one status words before after plan runs asked can none =
+    plan_ends one status words plan runs.plan before after asked runs.asked can none runs.says runs.cause
 
 -- what a status means keeps this promise
-pub means_well : EndsWell
-means_well Done words before after plan text bytes means asked d c both none = inl refl
-means_well (Open role) words before after plan text bytes means asked d c both none =
-    runs_well (Open role) words before after plan text bytes means asked d c both none
-means_well (Read role) words before after plan text bytes means asked d c both none =
-    runs_well (Read role) words before after plan text bytes means asked d c both none
-means_well (Write role) words before after plan text bytes means asked d c both none =
-    runs_well (Write role) words before after plan text bytes means asked d c both none
-means_well NoMemory words before after plan text bytes means asked d c both none = inr refl
-means_well (Unbuilt part.Words) words before after plan text bytes means asked d c both none = absurd (means.1 plan asked)
-means_well (Unbuilt part.Database) words before after plan text bytes means asked d c both none =
-    runs_well (Unbuilt part.Database) words before after plan text bytes means asked d c both none
-means_well (Unbuilt part.Capture) words before after plan text bytes means asked d c both none =
-    runs_well (Unbuilt part.Capture) words before after plan text bytes means asked d c both none
+pub means_well : OneDatabase → ExcludesFault → EndsWell
+means_well databases faults Done words before after plan means asked can none = inl refl
+means_well databases faults (Open role) words before after plan means asked can none = runs_well (record { databases = databases; faults = faults }) (Open role) words before after plan means asked can none
+means_well databases faults (Read role) words before after plan means asked can none = runs_well (record { databases = databases; faults = faults }) (Read role) words before after plan means asked can none
+means_well databases faults (Write role) words before after plan means asked can none = runs_well (record { databases = databases; faults = faults }) (Write role) words before after plan means asked can none
+means_well databases faults (Database line code) words before after plan means asked can none = runs_well (record { databases = databases; faults = faults }) (Database line code) words before after plan means asked can none
+means_well databases faults NoMemory words before after plan means asked can none = inr refl
+means_well databases faults (Unbuilt part.Words) words before after plan means asked can none = absurd (means.1 plan asked)
+means_well databases faults (Unbuilt part.Database) words before after plan means asked can none = runs_well (record { databases = databases; faults = faults }) (Unbuilt part.Database) words before after plan means asked can none
+means_well databases faults (Unbuilt part.Capture) words before after plan means asked can none = runs_well (record { databases = databases; faults = faults }) (Unbuilt part.Capture) words before after plan means asked can none

@@ -1,5 +1,7 @@
 pub mod Binds
+pub mod Captures
 pub mod Chains
+pub mod Checks
 pub mod Complete
 pub mod Consistency
 pub mod DatabaseText

@@ -7,9 +7,9 @@ use Rattle.db_model.specs.declared.packet.Packet.{Packet}
 use Rattle.npd_host.specs.Host.{Outputs, Took}
 use Rattle.npd_host.proofs.Transfers.{took_then, part_then}
 use Rattle.npd_top.specs.declared.simple.SimpleProtocol.{SimpleProtocol}
-use Rattle.npd_top.specs.declared.status.Role.TheVariants.{Db, Cap, Pdml}
+use Rattle.npd_top.specs.declared.status.Role.TheVariants.{Db, Cap, Pdml, Out}
 use Rattle.npd_top.specs.declared.status.Status.{Status}
-use Rattle.npd_top.specs.declared.status.Status.TheVariants.{Done, Open, Read, Write, NoMemory, Unbuilt}
+use Rattle.npd_top.specs.declared.status.Status.TheVariants.{Done, Open, Read, Write, Database, NoMemory, Unbuilt}
 use Rattle.npd_top.specs.Pdml.{open_text, whole_text, packet_text, opening, closing}
 use Rattle.npd_top.specs.Written.{FailsText, TakesText}
 
@@ -21,6 +21,8 @@ fails_then (Read role) id r s t xs ys zs whole p q e = absurd q
 fails_then (Write Db) id r s t xs ys zs whole p q e = absurd q
 fails_then (Write Cap) id r s t xs ys zs whole p q e = absurd q
 fails_then (Write Pdml) id r s t xs ys zs whole p q e = part_then id r s t xs ys zs whole p q e
+fails_then (Write Out) id r s t xs ys zs whole p q e = absurd q
+fails_then (Database line code) id r s t xs ys zs whole p q e = absurd q
 fails_then NoMemory id r s t xs ys zs whole p q e = record {
   front = xs ++ q.front;
   back = q.back ++ zs;

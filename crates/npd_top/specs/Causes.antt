@@ -1,5 +1,7 @@
 -- Which status a part of a run gives up with, and which count of faults rose for it.
 use Rattle.std.specs.Prelude.{ℕ, List, Option}
+use Rattle.db_model.specs.declared.fault.DbFail.{DbFail}
+use Rattle.db_model.specs.declared.fault.DbFail.TheVariants as database
 use Rattle.npd_host.specs.declared.host.CallKind.{CallKind}
 use Rattle.npd_host.specs.declared.host.CallKind.TheVariants as call
 use Rattle.npd_host.specs.declared.host.HostFail.{HostFail}
@@ -7,10 +9,10 @@ use Rattle.npd_host.specs.declared.host.HostFail.TheVariants as host
 use Rattle.npd_host.specs.Host.{Rose, RoseAt}
 use Rattle.pcap_in.specs.declared.fail.CapFail.{CapFail}
 use Rattle.pcap_in.specs.declared.fail.CapFail.TheVariants as fail
-use Rattle.npd_top.specs.declared.status.Role.TheVariants.{Db, Cap, Pdml}
+use Rattle.npd_top.specs.declared.status.Role.TheVariants.{Db, Cap, Pdml, Out}
 use Rattle.npd_top.specs.declared.status.Part.TheVariants as part
 use Rattle.npd_top.specs.declared.status.Status.{Status}
-use Rattle.npd_top.specs.declared.status.Status.TheVariants.{Open, Read, Write, NoMemory, Unbuilt}
+use Rattle.npd_top.specs.declared.status.Status.TheVariants.{Open, Read, Write, Database, NoMemory, Unbuilt}
 
 -- the status where a host refused a call: this one, or want of memory
 abbrev pub refusal : Status → HostFail → Status
@@ -19,7 +21,7 @@ refusal failed host.NoMemory = NoMemory
 
 -- the status for each failure of a reader of captures
 abbrev pub capture_status : CapFail → Status
-capture_status fail.Broken = Unbuilt part.Capture
+capture_status (fail.Broken offset code) = Unbuilt part.Capture
 capture_status fail.ReadFault = Read Cap
 capture_status fail.NoMemory = NoMemory
 
@@ -42,6 +44,22 @@ HasTextCause name before now other = ⊥
 abbrev pub HasDatabaseCause : List ℕ → (CallKind → List ℕ → ℕ) → (CallKind → List ℕ → ℕ) → Status → Type 0
 HasDatabaseCause name before now (Unbuilt part.Database) = Unit {0}
 HasDatabaseCause name before now status = HasTextCause name before now status
+
+-- the status for each failure of loading and checking
+abbrev pub fault_status : DbFail → Status
+fault_status (database.Fault line code) = Database line code
+fault_status database.NoMemory = NoMemory
+
+-- a text is loaded and checked as a database
+abbrev pub IsFault : Status → Type 0
+IsFault (Database line code) = Unit {0}
+IsFault NoMemory = Unit {0}
+IsFault other = ⊥
+
+-- a database is opened, read, loaded and checked
+abbrev pub HasCheckCause : List ℕ → (CallKind → List ℕ → ℕ) → (CallKind → List ℕ → ℕ) → Status → Type 0
+HasCheckCause name before now (Database line code) = Unit {0}
+HasCheckCause name before now status = HasTextCause name before now status
 
 -- an open capture is read to its end
 abbrev pub HasReadCause : Option (List ℕ) → (CallKind → List ℕ → ℕ) → (CallKind → List ℕ → ℕ) → Status → Type 0
@@ -70,3 +88,10 @@ HasOutputCause name before now (Open Pdml) = RoseOn call.OpenOut name before now
 HasOutputCause name before now (Write Pdml) = RoseOn call.Write name before now
 HasOutputCause name before now NoMemory = Unit {0}
 HasOutputCause name before now other = ⊥
+
+-- the output of a command's line is opened and written
+abbrev pub HasLineCause : List ℕ → (CallKind → List ℕ → ℕ) → (CallKind → List ℕ → ℕ) → Status → Type 0
+HasLineCause name before now (Open Out) = RoseOn call.OpenOut name before now
+HasLineCause name before now (Write Out) = RoseOn call.Write name before now
+HasLineCause name before now NoMemory = Unit {0}
+HasLineCause name before now other = ⊥

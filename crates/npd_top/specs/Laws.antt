@@ -2,22 +2,47 @@
 use Rattle.std.specs.Prelude.{◌≡◌, ◌⊎◌, ℕ, List, Some}
 use Rattle.npd_host.specs.declared.host.CallKind.{CallKind}
 use Rattle.npd_host.specs.Host.{Rose}
+use Rattle.npd_top.specs.declared.plan.CheckFiles.{CheckFiles}
+use Rattle.npd_top.specs.declared.plan.DecodeFiles.{DecodeFiles}
 use Rattle.npd_top.specs.declared.plan.Plan.{Plan}
+use Rattle.npd_top.specs.declared.plan.Plan.TheVariants.{Decode, Check}
 use Rattle.npd_top.specs.declared.status.Status.{Status}
 use Rattle.npd_top.specs.declared.status.Status.TheVariants.{Done, NoMemory}
+use Rattle.npd_top.specs.CheckRun.{HasAccepted}
+use Rattle.npd_top.specs.DecodeRun.{HasBoth}
 use Rattle.npd_top.specs.Outside.{Outside}
-use Rattle.npd_top.specs.Run.{HasBoth, Means}
+use Rattle.npd_top.specs.Run.{Means}
 use Rattle.npd_top.specs.Words.{Asks}
 
 -- no count of faults rose, and none stands at its last value
 abbrev pub NoneRose : Outside → Outside → Type 0
 NoneRose before after = (kind : CallKind) (name : List ℕ) → Rose (before.faults kind name) (after.faults kind name) → ⊥
 
--- served words, a simple database, a whole capture, and no count that rose: all is done, unless memory was refused
+-- the files are told, and are a simple database and a capture that is served
+pub record CanDecode (files : DecodeFiles) (before : Outside) : Type 0 where
+  pub text : List ℕ
+  pub bytes : List ℕ
+  pub db_is : before.files files.db ≡ Some text
+  pub cap_is : before.files files.cap ≡ Some bytes
+  pub both : HasBoth text bytes
+
+-- the file is told, and is a database that is accepted
+pub record CanCheck (files : CheckFiles) (before : Outside) : Type 0 where
+  pub text : List ℕ
+  pub db_is : before.files files.db ≡ Some text
+  pub accepted : HasAccepted text
+
+-- the files of a plan are such that it can be served
+abbrev pub CanServe : Plan → Outside → Type 0
+CanServe (Decode files) before = CanDecode files before
+CanServe (Check files) before = CanCheck files before
+
+-- words that ask for a plan, files with which it can be served, and no count that rose: all is done, unless memory was
+-- refused
 abbrev pub EndsWell : Type 0
 EndsWell =
-    (status : Status) (words : List (List ℕ)) (before after : Outside) (plan : Plan) (text bytes : List ℕ)
+    (status : Status) (words : List (List ℕ)) (before after : Outside) (plan : Plan)
     → Means status words before after
-    → Asks words plan → before.files plan.db ≡ Some text → before.files plan.cap ≡ Some bytes → HasBoth text bytes
+    → Asks words plan → CanServe plan before
     → NoneRose before after
     → (status ≡ Done) ⊎ (status ≡ NoMemory)

@@ -1,5 +1,7 @@
 pub mod Capture
 pub mod Causes
+pub mod CheckRun
+pub mod DecodeRun
 pub mod Decoding
 pub mod Laws
 pub mod Outside

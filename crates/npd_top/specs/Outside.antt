@@ -1,5 +1,5 @@
 -- What a run sees of a host, and which files it opens.
-use Rattle.std.specs.Prelude.{◌≡◌, ◌⊎◌, ℕ, List, [], ◌∷◌, ◌++◌, Option, Result, Ok, Err}
+use Rattle.std.specs.Prelude.{◌≡◌, ◌<◌, ◌⊎◌, ℕ, List, [], ◌∷◌, ◌++◌, length, Option, Result, Ok, Err}
 use Rattle.npd_host.specs.declared.host.CallKind.{CallKind}
 use Rattle.npd_host.specs.declared.host.Host.{Ghosts}
 use Rattle.npd_host.specs.Host.{Inputs, Outputs}
@@ -16,6 +16,16 @@ pub record Outside : Type 0 where
 -- a host as it is seen
 abbrev pub seen : {S : Type 0} → Ghosts S → S → Outside
 seen H host = record { inputs = H.inputs host; outputs = H.outputs host; files = H.files host; faults = H.faults host }
+
+-- no output was touched
+abbrev pub WroteNothing : Outside → Outside → Type 0
+WroteNothing before after = after.outputs ≡ before.outputs
+
+-- at most so many bytes of an input: all of it, where there are fewer
+pub record FrontOf (most : ℕ) (front whole : List ℕ) : Type 0 where
+  pub rest : List ℕ
+  pub parts : whole ≡ front ++ rest
+  pub end : length front < most → rest ≡ []
 
 -- the inputs of these names and the outputs of those were opened, in this order, each once, and no others
 pub record Opened (read written : List (List ℕ)) (before after : Outside) : Type 0 where

@@ -1,11 +1,11 @@
 -- The exit number and the line of each status.
-use Rattle.std.specs.Prelude.{ℕ, List, [], ◌∷◌, ◌++◌, codes}
+use Rattle.std.specs.Prelude.{ℕ, List, [], ◌∷◌, ◌++◌, codes, decimal}
 use Rattle.npd_top.specs.declared.status.Role.{Role}
-use Rattle.npd_top.specs.declared.status.Role.TheVariants.{Db, Cap, Pdml}
+use Rattle.npd_top.specs.declared.status.Role.TheVariants.{Db, Cap, Pdml, Out}
 use Rattle.npd_top.specs.declared.status.Part.{Part}
-use Rattle.npd_top.specs.declared.status.Part.TheVariants.{Words, Database, Capture}
+use Rattle.npd_top.specs.declared.status.Part.TheVariants as part
 use Rattle.npd_top.specs.declared.status.Status.{Status}
-use Rattle.npd_top.specs.declared.status.Status.TheVariants.{Done, Open, Read, Write, NoMemory, Unbuilt}
+use Rattle.npd_top.specs.declared.status.Status.TheVariants.{Done, Open, Read, Write, Database, NoMemory, Unbuilt}
 
 -- the process's exit number
 abbrev pub exit_of : Status → ℕ
@@ -13,18 +13,20 @@ exit_of Done = 0
 exit_of (Open role) = 3
 exit_of (Read role) = 4
 exit_of (Write role) = 5
+exit_of (Database line code) = 6
 exit_of NoMemory = 12
-exit_of (Unbuilt part) = 20
+exit_of (Unbuilt which) = 20
 
 abbrev pub role_word : Role → List ℕ
 role_word Db = codes "db"
 role_word Cap = codes "cap"
 role_word Pdml = codes "pdml"
+role_word Out = codes "out"
 
 abbrev pub part_word : Part → List ℕ
-part_word Words = codes "words"
-part_word Database = codes "database"
-part_word Capture = codes "capture"
+part_word part.Words = codes "words"
+part_word part.Database = codes "database"
+part_word part.Capture = codes "capture"
 
 -- what is said of a status behind `npd: `
 abbrev pub saying_of : Status → List ℕ
@@ -32,8 +34,9 @@ saying_of Done = []
 saying_of (Open role) = codes "open " ++ role_word role
 saying_of (Read role) = codes "read " ++ role_word role
 saying_of (Write role) = codes "write " ++ role_word role
+saying_of (Database line code) = codes "database " ++ (decimal line ++ (codes " " ++ decimal code))
 saying_of NoMemory = codes "no memory"
-saying_of (Unbuilt part) = codes "unbuilt " ++ part_word part
+saying_of (Unbuilt which) = codes "unbuilt " ++ part_word which
 
 -- the line for standard error: none where all is done
 abbrev pub line_of : Status → List ℕ

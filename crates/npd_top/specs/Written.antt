@@ -1,7 +1,7 @@
 -- What a run has written to one named output, and that every other output is left.
 use Rattle.std.specs.Prelude.{◌≡◌, ◌<◌, ◌⊎◌, ℕ, List, ◌++◌, length, Some, None, Result, Ok, Err, IfSome}
 use Rattle.npd_host.specs.Host.{Outputs, Took, TookPart}
-use Rattle.npd_top.specs.declared.status.Role.TheVariants.{Pdml}
+use Rattle.npd_top.specs.declared.status.Role.TheVariants.{Pdml, Out}
 use Rattle.npd_top.specs.declared.status.Status.{Status}
 use Rattle.npd_top.specs.declared.status.Status.TheVariants.{Open, Write, NoMemory}
 
@@ -54,3 +54,11 @@ WritesText (Err (Open Pdml)) old new name text = new ≡ old
 WritesText (Err (Write Pdml)) old new name text = WrotePart old new name text
 WritesText (Err NoMemory) old new name text = (new ≡ old) ⊎ WroteFront old new name text
 WritesText (Err other) old new name text = ⊥
+
+-- the same for the line of a command
+abbrev pub WritesLine : {A : Type 0} → Result A Status → Outputs → Outputs → List ℕ → List ℕ → Type 0
+WritesLine (Ok done) old new name text = Wrote old new name text
+WritesLine (Err (Open Out)) old new name text = new ≡ old
+WritesLine (Err (Write Out)) old new name text = WrotePart old new name text
+WritesLine (Err NoMemory) old new name text = (new ≡ old) ⊎ WroteFront old new name text
+WritesLine (Err other) old new name text = ⊥

@@ -1,15 +1,14 @@
 ghost use Rattle.std.specs.Prelude.{◌≡◌, IsTrue, IsSome, IfSome, IfErr, IfOk};
 ghost use Rattle.npd_host.specs.Host.{MovesInputsOnly};
 ghost use Rattle.pcap_in.specs.Reader.{is_usable, left, InReach};
-ghost use Rattle.pcap_in.specs.Capture.{cap};
-ghost use Rattle.npd_top.specs.Capture.{NextIs, PacketsAre, CaptureIs};
+ghost use Rattle.npd_top.specs.Capture.{is_served, NextIs, PacketsAre, CaptureIs};
 ghost use Rattle.npd_top.specs.Causes.{capture_status, HasReadCause, HasCaptureCause};
 ghost use Rattle.npd_top.specs.Outside.{OpensOne};
 
 use crate::status::{Part, Role, Status, refused};
 use db_model::Packet;
 use npd_host::Host;
-use pcap_in::{CapFail, CapReader, Next};
+use pcap_in::{CapFail, CapReader, Endian, Form, Next, Resolution};
 use sqlite_items::Items;
 use std::alloc::Global;
 
@@ -18,11 +17,24 @@ fn status_of(fail: CapFail) -> Status
     ensures { result ≡ capture_status fail }
 {
     match fail {
-        CapFail::Broken => Status::Unbuilt {
+        CapFail::Broken { .. } => Status::Unbuilt {
             part: Part::Capture,
         },
         CapFail::ReadFault => Status::Read { role: Role::Cap },
         CapFail::NoMemory => Status::NoMemory,
+    }
+}
+
+/// Whether captures of this form are served: little-endian with microseconds.
+fn is_served(form: Form) -> bool
+    ensures { result ≡ is_served form }
+{
+    match form.endian {
+        Endian::Little => match form.resolution {
+            Resolution::Microseconds => true,
+            Resolution::Nanoseconds => false,
+        },
+        Endian::Big => false,
     }
 }
 
@@ -80,15 +92,14 @@ fn read_packets<H: Host>(
     }
 }
 
-/// Opens a capture and reads it whole: at most 4,294,967,295 packets.
+/// Opens a capture of a form that is served and reads it whole: at most `most` packets.
 pub fn read_capture<H: Host>(
     alloc: Global,
     host: &mut H,
     name: &str,
     most: u32,
 ) -> Result<Items<Packet>, Status>
-    ensures packets { IfSome (H.files host.old name.now) (λ bytes.
-        CaptureIs most result (cap bytes)) }
+    ensures packets { IfSome (H.files host.old name.now) (CaptureIs most result) }
     ensures opens { OpensOne name.now (H.inputs host.old).opened (H.inputs host.new).opened result }
     ensures frame { MovesInputsOnly H.outputs H.files H.faults host.old host.new }
     ensures cause { IfErr result (HasCaptureCause name.now
@@ -98,8 +109,14 @@ pub fn read_capture<H: Host>(
         Ok(id) => id,
         Err(fail) => return Err(refused(fail, Status::Open { role: Role::Cap })),
     };
-    match CapReader::begin(alloc, host, id) {
-        Ok(reader) => read_packets(alloc, host, reader, most),
-        Err(fail) => Err(status_of(fail)),
+    let reader = match CapReader::begin(alloc, host, id) {
+        Ok(reader) => reader,
+        Err(fail) => return Err(status_of(fail)),
+    };
+    if !is_served(reader.form()) {
+        return Err(Status::Unbuilt {
+            part: Part::Capture,
+        });
     }
+    read_packets(alloc, host, reader, most)
 }

@@ -1,7 +1,11 @@
 ghost use Rattle.npd_top.specs.Laws.{EndsWell};
 
-/// Where served words name a simple database and a whole capture, and no count of faults rises, a run is done,
-/// or memory was refused.
+use db_load::laws::each_text_has_one_answer;
+
+/// Where served words name files with which their command can be served, a simple database and a whole capture or an
+/// accepted database, and no count of faults rises, a run is done, or memory was refused.
 pub fn a_run_ends_well()
     ensures { EndsWell }
-{}
+{
+    each_text_has_one_answer();
+}

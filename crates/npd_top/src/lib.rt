@@ -3,6 +3,7 @@
 #![tactic(auto)]
 
 mod capture;
+mod checked;
 mod decode;
 mod laws;
 mod limits;
@@ -15,9 +16,10 @@ mod reader;
 mod run;
 mod simple;
 mod status;
+mod totals;
 
 pub use laws::a_run_ends_well;
-pub use plan::Plan;
+pub use plan::{CheckFiles, DecodeFiles, Plan};
 pub use reader::{ReadFail, read_database, spells_one_database};
 pub use run::run_serial;
 pub use simple::{SimpleDb, SimpleField, SimpleProtocol};

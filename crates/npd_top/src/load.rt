@@ -3,8 +3,8 @@ ghost use Rattle.npd_host.specs.Host.{MovesInputsOnly};
 ghost use Rattle.db_model.specs.declared.limits.TheConstants.{MOST_PROTOCOLS};
 ghost use Rattle.npd_top.specs.declared.limits.TheConstants.{MOST_DATABASE};
 ghost use Rattle.npd_top.specs.Causes.{HasTextCause, HasDatabaseCause};
-ghost use Rattle.npd_top.specs.Outside.{OpensOne};
-ghost use Rattle.npd_top.specs.Run.{FrontOf, DatabaseIs};
+ghost use Rattle.npd_top.specs.DecodeRun.{DatabaseIs};
+ghost use Rattle.npd_top.specs.Outside.{OpensOne, FrontOf};
 
 use crate::reader::{ReadFail, read_database};
 use crate::simple::SimpleDb;
@@ -13,7 +13,7 @@ use npd_host::{Host, fill};
 use std::alloc::Global;
 
 /// Opens the database file and reads at most `most` bytes of it.
-fn read_text<H: Host>(
+pub fn read_text<H: Host>(
     alloc: Global,
     host: &mut H,
     name: &str,

@@ -1,10 +1,11 @@
 ghost use Rattle.std.specs.Prelude.{◌≤◌, length, IsSome, IfErr};
 ghost use Rattle.npd_host.specs.Host.{MovesOutputsOnly};
 ghost use Rattle.db_model.specs.declared.limits.TheConstants.{MOST_PROTOCOLS};
-ghost use Rattle.npd_top.specs.Causes.{HasWriteCause, HasOutputCause};
+ghost use Rattle.npd_top.specs.Causes.{HasWriteCause, HasOutputCause, HasLineCause};
+ghost use Rattle.npd_top.specs.CheckRun.{standard};
 ghost use Rattle.npd_top.specs.Outside.{OpensOne};
 ghost use Rattle.npd_top.specs.Pdml.{whole_text};
-ghost use Rattle.npd_top.specs.Written.{TakesText, WritesText};
+ghost use Rattle.npd_top.specs.Written.{TakesText, WritesText, WritesLine};
 
 use crate::pdml::{closing, opening, packet_text};
 use crate::simple::SimpleProtocol;
@@ -76,4 +77,21 @@ pub fn write_pdml<H: Host>(
         Err(fail) => return Err(refused(fail, Status::Open { role: Role::Pdml })),
     };
     write_pieces(alloc, host, id, db, packets)
+}
+
+/// Opens standard output and writes the line of a command.
+pub fn write_line<H: Host>(host: &mut H, line: &[u8]) -> Result<(), Status>
+    ensures writes { WritesLine result (H.outputs host.old) (H.outputs host.new) standard line.now }
+    ensures opens { OpensOne standard (H.outputs host.old).opened (H.outputs host.new).opened result }
+    ensures frame { MovesOutputsOnly H.inputs H.files H.faults host.old host.new }
+    ensures cause { IfErr result (HasLineCause standard (H.faults host.old) (H.faults host.new)) }
+{
+    let id = match host.open_out("-") {
+        Ok(id) => id,
+        Err(fail) => return Err(refused(fail, Status::Open { role: Role::Out })),
+    };
+    match write_all(host, id, line) {
+        Ok(()) => Ok(()),
+        Err(fail) => Err(refused(fail, Status::Write { role: Role::Out })),
+    }
 }

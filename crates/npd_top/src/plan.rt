@@ -1,16 +1,31 @@
 ghost use Rattle.std.specs.Prelude.{◌≡◌, ◌≢◌, ◌↔◌, List, ℕ, [], ◌∷◌, map, string_bytes, IfSome, IfNone, IfOk, MatchOption, IsTrue, slice_get};
 ghost use Rattle.std.specs.Option.{option_copied};
-ghost use Rattle.npd_top.specs.Words.{words_of, Asks, AsksNothing, IsFileName, IsOutputName};
+ghost use Rattle.npd_top.specs.Words.{decode_words, check_words, Asks, AsksNothing, AsksDecode, AsksNoDecode, AsksCheck, AsksNoCheck, IsFileName, IsOutputName};
 
 use db_model::{NoMemory, Word};
 use std::alloc::Global;
 
-/// What the command words ask for: decode the capture `cap` by the database `db`, and write PDML to `pdml`.
+/// The files of a decode.
 #[derive(Drop)]
-pub struct Plan {
+pub struct DecodeFiles {
     pub db: Word,
     pub cap: Word,
     pub pdml: Word,
+}
+
+/// The file of a check.
+#[derive(Drop)]
+pub struct CheckFiles {
+    pub db: Word,
+}
+
+/// What the command words ask for.
+#[derive(Drop)]
+pub enum Plan {
+    /// Decode the capture by the database, and write its PDML.
+    Decode(DecodeFiles),
+    /// Load and check the database, and write to standard output how much it declares.
+    Check(CheckFiles),
 }
 
 /// The three files that the words name.
@@ -47,12 +62,12 @@ fn option_value<'a>(words: &'a [String], name: &str) -> Option<(&'a str, &'a [St
     Some((value.as_str(), rest))
 }
 
-/// The three names, where the words are spelled as those of a plan.
+/// The three names, where the words are spelled as those of a decode.
 fn spelled_names(words: &[String]) -> Option<Names<'_>>
     ensures found { IfSome result (λ names.
-        map string_bytes words.now ≡ words_of names.db.now names.cap.now names.pdml.now) }
+        map string_bytes words.now ≡ decode_words names.db.now names.cap.now names.pdml.now) }
     ensures missing { IfNone result ((db cap pdml : List ℕ)
-        → map string_bytes words.now ≡ words_of db cap pdml → ⊥) }
+        → map string_bytes words.now ≡ decode_words db cap pdml → ⊥) }
 {
     let options = past(words, "decode")?;
     let (db, options) = option_value(options, "--db")?;
@@ -82,10 +97,22 @@ fn is_output_name(name: &str) -> bool
     name == "-" || is_file_name(name)
 }
 
-/// The plan that the words ask for, or `None` where they ask for none.
-pub fn read_plan(alloc: Global, words: &[String]) -> Result<Option<Plan>, NoMemory>
+/// The name, where the words are spelled as those of a check.
+fn spelled_name(words: &[String]) -> Option<&str>
+    ensures found { IfSome result (λ db. map string_bytes words.now ≡ check_words db.now) }
+    ensures missing { IfNone result ((db : List ℕ)
+        → map string_bytes words.now ≡ check_words db → ⊥) }
+{
+    let options = past(words, "check")?;
+    let (db, end) = option_value(options, "--db")?;
+    if end.is_empty() { Some(db) } else { None }
+}
+
+/// The files of the decode that the words ask for, or `None` where they ask for none.
+fn read_decode(alloc: Global, words: &[String]) -> Result<Option<DecodeFiles>, NoMemory>
     ensures { IfOk result (λ read.
-        MatchOption read (AsksNothing (map string_bytes words.now)) (Asks (map string_bytes words.now))) }
+        MatchOption read (AsksNoDecode (map string_bytes words.now))
+        (AsksDecode (map string_bytes words.now))) }
 {
     let Some(names) = spelled_names(words) else {
         return Ok(None);
@@ -96,9 +123,40 @@ pub fn read_plan(alloc: Global, words: &[String]) -> Result<Option<Plan>, NoMemo
     if names.db == names.cap || names.db == names.pdml || names.cap == names.pdml {
         return Ok(None);
     }
-    Ok(Some(Plan {
+    Ok(Some(DecodeFiles {
         db: Word::copy_of(alloc, names.db)?,
         cap: Word::copy_of(alloc, names.cap)?,
         pdml: Word::copy_of(alloc, names.pdml)?,
     }))
+}
+
+/// The file of the check that the words ask for, or `None` where they ask for none.
+fn read_check(alloc: Global, words: &[String]) -> Result<Option<CheckFiles>, NoMemory>
+    ensures { IfOk result (λ read.
+        MatchOption read (AsksNoCheck (map string_bytes words.now))
+        (AsksCheck (map string_bytes words.now))) }
+{
+    let Some(db) = spelled_name(words) else {
+        return Ok(None);
+    };
+    if !is_file_name(db) {
+        return Ok(None);
+    }
+    Ok(Some(CheckFiles {
+        db: Word::copy_of(alloc, db)?,
+    }))
+}
+
+/// The plan that the words ask for, or `None` where they ask for none.
+pub fn read_plan(alloc: Global, words: &[String]) -> Result<Option<Plan>, NoMemory>
+    ensures { IfOk result (λ read.
+        MatchOption read (AsksNothing (map string_bytes words.now)) (Asks (map string_bytes words.now))) }
+{
+    if let Some(files) = read_decode(alloc, words)? {
+        return Ok(Some(Plan::Decode(files)));
+    }
+    if let Some(files) = read_check(alloc, words)? {
+        return Ok(Some(Plan::Check(files)));
+    }
+    Ok(None)
 }

@@ -1,39 +1,44 @@
 ghost use Rattle.std.specs.Prelude.{◌≡◌, map, string_bytes};
 ghost use Rattle.npd_host.specs.Host.{NoneFalls};
+ghost use Rattle.npd_top.specs.CheckRun.{CheckSays, CheckOpens};
+ghost use Rattle.npd_top.specs.DecodeRun.{DecodeSays, DecodeOpens};
 ghost use Rattle.npd_top.specs.Outside.{seen};
-ghost use Rattle.npd_top.specs.Run.{Says, Opens, HasCause, Means};
+ghost use Rattle.npd_top.specs.Run.{HasCause, Means};
 
 use crate::capture::read_capture;
+use crate::checked::load_checked;
 use crate::limits::MOST_DATABASE;
 use crate::load::load;
-use crate::output::write_pdml;
-use crate::plan::{Plan, read_plan};
+use crate::output::{write_line, write_pdml};
+use crate::plan::{CheckFiles, DecodeFiles, Plan, read_plan};
 use crate::status::{Part, Status};
+use crate::totals::count_line;
 use db_model::NoMemory;
 use npd_host::Host;
 use std::alloc::Global;
 
 /// Loads the database, reads the capture, and writes the PDML.
-fn run_plan<H: Host>(alloc: Global, host: &mut H, plan: &Plan) -> Status
-    ensures opens { Opens result plan.now (seen H.Host host.old) (seen H.Host host.new) }
-    ensures says { Says result plan.now (seen H.Host host.old) (seen H.Host host.new) }
-    ensures cause { HasCause result plan.now (seen H.Host host.old) (seen H.Host host.new) }
+fn run_decode<H: Host>(alloc: Global, host: &mut H, files: &DecodeFiles) -> Status
+    ensures opens { DecodeOpens result files.now (seen H.Host host.old) (seen H.Host host.new) }
+    ensures says { DecodeSays result files.now (seen H.Host host.old) (seen H.Host host.new) }
+    ensures cause { HasCause result (Plan.Decode files.now)
+        (seen H.Host host.old) (seen H.Host host.new) }
     ensures files { H.files host.new ≡ H.files host.old }
     ensures later { NoneFalls (H.faults host.old) (H.faults host.new) }
 {
     // One byte more than a database has, so that a longer text is seen.
-    let db = match load(alloc, host, plan.db.as_str(), MOST_DATABASE + 1) {
+    let db = match load(alloc, host, files.db.as_str(), MOST_DATABASE + 1) {
         Ok(db) => db,
         Err(status) => return status,
     };
-    let packets = match read_capture(alloc, host, plan.cap.as_str(), u32::MAX) {
+    let packets = match read_capture(alloc, host, files.cap.as_str(), u32::MAX) {
         Ok(packets) => packets,
         Err(status) => return status,
     };
     match write_pdml(
         alloc,
         host,
-        plan.pdml.as_str(),
+        files.pdml.as_str(),
         db.as_slice(),
         packets.as_slice(),
     ) {
@@ -42,8 +47,35 @@ fn run_plan<H: Host>(alloc: Global, host: &mut H, plan: &Plan) -> Status
     }
 }
 
-/// Serves the command words `decode --db D --cap C --pdml P --workers 0` on a host: reads the database file D
-/// and the capture C, and writes to P the PDML of decoding the packets one by one, in order. It always returns.
+/// Loads and checks the database, and writes how much it declares.
+fn run_check<H: Host>(alloc: Global, host: &mut H, files: &CheckFiles) -> Status
+    ensures opens { CheckOpens result files.now (seen H.Host host.old) (seen H.Host host.new) }
+    ensures says { CheckSays result files.now (seen H.Host host.old) (seen H.Host host.new) }
+    ensures cause { HasCause result (Plan.Check files.now)
+        (seen H.Host host.old) (seen H.Host host.new) }
+    ensures files { H.files host.new ≡ H.files host.old }
+    ensures later { NoneFalls (H.faults host.old) (H.faults host.new) }
+{
+    // One byte more than a database has, so that a longer text is seen.
+    let db = match load_checked(alloc, host, files.db.as_str(), MOST_DATABASE + 1) {
+        Ok(db) => db,
+        Err(status) => return status,
+    };
+    let line = match count_line(alloc, db.database()) {
+        Ok(line) => line,
+        Err(_) => return Status::NoMemory,
+    };
+    match write_line(host, line.as_slice()) {
+        Ok(()) => Status::Done,
+        Err(status) => status,
+    }
+}
+
+/// Serves command words on a host. It always returns.
+///
+/// `decode --db D --cap C --pdml P --workers 0` reads the database file D and the capture C, and writes to P the PDML
+/// of decoding the packets one by one, in order. `check --db D` loads and checks the database file D, and writes to
+/// standard output how much it declares.
 ///
 /// The status says how it ended. `Means` is what each status promises, for every list of words, every host,
 /// every told input and every list of failing calls: which status comes exactly where, which only where the
@@ -57,7 +89,8 @@ pub fn run_serial<H: Host>(alloc: Global, words: &[String], host: &mut H) -> Sta
     ensures later { NoneFalls (H.faults host.old) (H.faults host.new) }
 {
     match read_plan(alloc, words) {
-        Ok(Some(plan)) => run_plan(alloc, host, &plan),
+        Ok(Some(Plan::Decode(files))) => run_decode(alloc, host, &files),
+        Ok(Some(Plan::Check(files))) => run_check(alloc, host, &files),
         Ok(None) => Status::Unbuilt { part: Part::Words },
         Err(NoMemory) => Status::NoMemory,
     }

@@ -1,8 +1,9 @@
-ghost use Rattle.std.specs.Prelude.{◌≡◌, ◌++◌, ◌∷◌, [], codes, IfOk};
+ghost use Rattle.std.specs.Prelude.{◌≡◌, ◌++◌, ◌∷◌, [], codes, decimal, IfOk};
 ghost use Rattle.npd_top.specs.Causes.{refusal};
 ghost use Rattle.npd_top.specs.Status.{exit_of, line_of, role_word, part_word};
 
 use db_model::{Bytes64, NoMemory};
+use itoa::Buffer;
 use npd_host::HostFail;
 use std::alloc::{AllocError, Global};
 
@@ -12,6 +13,8 @@ pub enum Role {
     Db,
     Cap,
     Pdml,
+    /// Standard output, for the line of a command.
+    Out,
 }
 
 impl Role {
@@ -23,6 +26,7 @@ impl Role {
             Role::Db => "db",
             Role::Cap => "cap",
             Role::Pdml => "pdml",
+            Role::Out => "out",
         }
     }
 }
@@ -51,7 +55,7 @@ impl Part {
 /// How a run ended.
 #[derive(Clone, Copy)]
 pub enum Status {
-    /// The capture was read to its end, and each named output is its whole text.
+    /// What the inputs hold was read to its end, and the output is its whole text.
     Done,
     /// The file of this role was not opened. Nothing is written.
     Open { role: Role },
@@ -59,6 +63,8 @@ pub enum Status {
     Read { role: Role },
     /// The output of this role did not take its whole text: it holds a proper front of it.
     Write { role: Role },
+    /// The text of the database is refused, or the check of it, with a line, from 1, and a code. No output is opened.
+    Database { line: u32, code: u8 },
     /// Memory was refused. No output is opened, or the output holds a front of its whole text.
     NoMemory,
     /// This part of the input has a form that isn't built yet. Nothing is written.
@@ -86,8 +92,8 @@ impl From<AllocError> for Status {
 }
 
 impl Status {
-    /// The process's exit number: 0 for `Done`, 3 to 5 for `Open`, `Read` and `Write`, 12 for `NoMemory`, 20 for
-    /// `Unbuilt`. Takes no memory.
+    /// The process's exit number: 0 for `Done`, 3 to 5 for `Open`, `Read` and `Write`, 6 for `Database`, 12 for
+    /// `NoMemory`, 20 for `Unbuilt`. Takes no memory.
     pub fn exit(&self) -> u8
         ensures { result ≡ exit_of self.now }
     {
@@ -96,6 +102,7 @@ impl Status {
             Status::Open { .. } => 3,
             Status::Read { .. } => 4,
             Status::Write { .. } => 5,
+            Status::Database { .. } => 6,
             Status::NoMemory => 12,
             Status::Unbuilt { .. } => 20,
         }
@@ -110,11 +117,27 @@ impl Status {
             Status::Open { role } => line(alloc, "open ", role.word())?,
             Status::Read { role } => line(alloc, "read ", role.word())?,
             Status::Write { role } => line(alloc, "write ", role.word())?,
+            Status::Database { line, code } => fault_line(alloc, *line, *code)?,
             Status::NoMemory => line(alloc, "no memory", "")?,
             Status::Unbuilt { part } => line(alloc, "unbuilt ", part.word())?,
         };
         Ok(Bytes64::from_vec(line))
     }
+}
+
+/// `npd: database LINE CODE`, and LF.
+fn fault_line(alloc: Global, line: u32, code: u8) -> Result<Vec<u8>, AllocError>
+    ensures { IfOk result (λ text. text.items
+        ≡ codes "npd: " ++ (codes "database " ++ (decimal line ++ (codes " " ++ decimal code)))
+        ++ 10 ∷ []) }
+{
+    let mut buffer = Buffer::new();
+    let mut text = Vec::from_slice(alloc, b"npd: database ")?;
+    text.extend_from_slice(buffer.format(line).as_bytes())?;
+    text.extend_from_slice(b" ")?;
+    text.extend_from_slice(buffer.format(code).as_bytes())?;
+    text.push(b'\n')?;
+    Ok(text)
 }
 
 /// `npd: `, what happened and to which file or part, and LF.

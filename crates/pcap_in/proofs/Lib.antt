@@ -1,3 +1,6 @@
+pub mod Ends
+pub mod Headers
+pub mod More
 pub mod ReaderLemmas
 pub mod Reading
 pub mod Records

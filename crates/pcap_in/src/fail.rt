@@ -6,9 +6,21 @@ use thiserror::Error;
 /// Why a capture gave no packet.
 #[derive(Debug, Drop, Error)]
 pub enum CapFail {
-    /// The bytes are no capture from here on. It is answered again by each later `next`.
+    /// The bytes are no capture from this offset on, which is 0 for a file header or 4 for its version, and else
+    /// that of a record. The code says why:
+    ///
+    /// | Code | What is broken |
+    /// |---|---|
+    /// | 1 | the file has fewer than 24 bytes |
+    /// | 2 | the magic number is none |
+    /// | 3 | the major version isn't 2 |
+    /// | 4 | 1 to 15 bytes follow where a record begins |
+    /// | 5 | the captured length is above 262,144 |
+    /// | 6 | fewer captured bytes follow than the length says |
+    ///
+    /// It is answered again by each later `next`.
     #[error("the capture is broken")]
-    Broken,
+    Broken { offset: u64, code: u8 },
     /// The host could not read the input.
     #[error("the capture could not be read")]
     ReadFault,

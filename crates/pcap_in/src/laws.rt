@@ -1,7 +1,17 @@
 //! What the definition of a capture comes to.
-ghost use Rattle.pcap_in.specs.Laws.{RecordsAreSteps};
+ghost use Rattle.pcap_in.specs.Laws.{RecordsAreSteps, EndsWithoutBytes, SeenIsRead};
 
 /// The records of any bytes are what stands at their front, and then the records of the bytes behind it.
 pub fn records_are_steps()
     ensures { RecordsAreSteps }
+{}
+
+/// Nothing but a whole end is seen exactly where no byte is left.
+pub fn ends_without_bytes()
+    ensures { EndsWithoutBytes }
+{}
+
+/// With a limit of packets, what is seen of a capture is told by the packets that were read and by what is left.
+pub fn seen_is_read()
+    ensures { SeenIsRead }
 {}

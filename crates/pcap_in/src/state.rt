@@ -1,9 +1,9 @@
 /// How a reader of a capture stands.
-#[derive(Clone, Copy, Debug, PartialEq, Eq)]
+#[derive(Clone, Copy)]
 pub enum State {
     Reading,
     /// It met what is no record.
-    Broken,
+    Broken { offset: u64, code: u8 },
     /// It met a read fault or want of memory.
     Unusable,
 }

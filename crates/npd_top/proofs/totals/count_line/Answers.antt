@@ -1,0 +1,21 @@
+use Rattle.std.proofs.Common.{◌≡◌, ◌++◌, List, ℕ, [], length, decimal, ap, ◌∙◌, append_assoc}
+use Rattle.std.specs.Prelude.{codes}
+use Rattle.npd_top.specs.CheckRun.{count_line}
+use Rattle.npd_top.proofs.totals.count_line.Goals as goal
+
+-- pieces that were added one after the other
+joined : (a p b q c r e t0 t1 t2 t3 t4 : List ℕ) → t0 ≡ [] → t1 ≡ t0 ++ (a ++ p) → t2 ≡ t1 ++ (b ++ q) → t3 ≡ t2 ++ (c ++ r) → t4 ≡ t3 ++ e → t4 ≡ a ++ (p ++ (b ++ (q ++ (c ++ (r ++ e)))))
+joined a p b q c r e t0 t1 t2 t3 t4 h0 h1 h2 h3 h4 =
+    h4 ∙ ap (λ (l : List ℕ). l ++ e) (h3 ∙ ap (λ (l : List ℕ). l ++ (c ++ r)) (h2 ∙ ap (λ (l : List ℕ). l ++ (b ++ q)) (h1 ∙ ap (λ (l : List ℕ). l ++ (a ++ p)) h0)))
+    ∙ simp append_assoc
+
+pub returns : goal.returns
+unfolding count_line
+returns c =
+    let db = c.args.db.now in
+    joined (codes "protocols ") (decimal (length db.protocols)) (codes " tables ") (decimal (length db.tables)) (codes " variables ") (decimal (length db.variables)) (codes "\n") _ _ _ _ _
+    c.new-text.ensures.items
+    (rw c.as_slice.ensures at c.in_ok-push_count.ensures)
+    (rw c.as_slice-2.ensures at c.in_ok-push_count-2.ensures)
+    (rw c.as_slice-3.ensures at c.in_ok-push_count-3.ensures)
+    c.in_ok-push.ensures

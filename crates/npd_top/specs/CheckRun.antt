@@ -1,0 +1,87 @@
+-- What a check comes to: which status comes where, which files are opened, and what the output has taken then.
+use Rattle.std.specs.Prelude.{◌≡◌, ◌⊎◌, ℕ, List, [], ◌∷◌, ◌++◌, length, codes, decimal, Some, None, Result, Ok, Err, IfSome}
+use Rattle.db_model.specs.declared.database.Database as model
+use Rattle.db_model.specs.declared.fault.DbFail.TheVariants as fail
+use Rattle.db_model.specs.Objection.{objection}
+use Rattle.db_load.specs.Answer.{Answers}
+use Rattle.npd_top.specs.declared.plan.CheckFiles.{CheckFiles}
+use Rattle.npd_top.specs.declared.status.Role.TheVariants.{Db, Cap, Pdml, Out}
+use Rattle.npd_top.specs.declared.status.Status.{Status}
+use Rattle.npd_top.specs.declared.status.Status.TheVariants.{Done, Open, Read, Write, Database, NoMemory, Unbuilt}
+use Rattle.npd_top.specs.Outside.{Outside, Opened, WroteNothing}
+use Rattle.npd_top.specs.Written.{Wrote, WroteFront, WrotePart}
+
+-- the text is that of this database, in which no fault stands
+pub record IsAccepted (text : List ℕ) (db : model.Database) : Type 0 where
+  pub loaded : Answers text (Ok db)
+  pub accepted : objection db ≡ None
+
+-- the text is that of a database in which this fault is the first
+pub record HasObjection (text : List ℕ) (line code : ℕ) : Type 0 where
+  pub db : model.Database
+  pub loaded : Answers text (Ok db)
+  pub objected : objection db ≡ Some (record { line = line; code = code })
+
+-- the text is refused with this line and this code: by its own grammar and the shape of its elements, or else by what
+-- these say of one another
+abbrev pub IsRefused : List ℕ → ℕ → ℕ → Type 0
+IsRefused text line code = Answers text (Err (fail.Fault line code)) ⊎ HasObjection text line code
+
+-- what a database file is, by how the loading and the checking of it ended
+abbrev pub CheckedIs : Result model.Database Status → List ℕ → Type 0
+CheckedIs (Ok db) text = IsAccepted text db
+CheckedIs (Err (Database line code)) text = IsRefused text line code
+CheckedIs (Err other) text = Unit {0}
+
+-- the line that says how much a database declares: `protocols P tables T variables V`
+unfoldable pub count_line : model.Database → List ℕ
+count_line db =
+    codes "protocols " ++ (decimal (length db.protocols) ++ (codes " tables " ++ (decimal (length db.tables)
+    ++ (codes " variables " ++ (decimal (length db.variables) ++ codes "\n")))))
+
+-- a database that is accepted
+pub record HasAccepted (text : List ℕ) : Type 0 where
+  pub db : model.Database
+  pub is : IsAccepted text db
+
+-- the database file, where it is told, is accepted, and this holds of its line
+abbrev pub FindsAccepted : CheckFiles → Outside → (List ℕ → Type 0) → Type 0
+FindsAccepted files before Holds = IfSome (before.files files.db) (λ text. (found : HasAccepted text) × Holds (count_line found.db))
+
+-- the output of a check
+abbrev pub standard : List ℕ
+standard = codes "-"
+
+-- what each status says of the file, and of the outputs before and after; those that end in ⊥ never come
+abbrev pub CheckSays : Status → CheckFiles → Outside → Outside → Type 0
+CheckSays Done files before after = FindsAccepted files before (Wrote before.outputs after.outputs standard)
+CheckSays (Open Db) files before after = WroteNothing before after
+CheckSays (Open Cap) files before after = ⊥
+CheckSays (Open Pdml) files before after = ⊥
+CheckSays (Open Out) files before after = WroteNothing before after × FindsAccepted files before (λ line. Unit {0})
+CheckSays (Read Db) files before after = WroteNothing before after
+CheckSays (Read Cap) files before after = ⊥
+CheckSays (Read Pdml) files before after = ⊥
+CheckSays (Read Out) files before after = ⊥
+CheckSays (Write Db) files before after = ⊥
+CheckSays (Write Cap) files before after = ⊥
+CheckSays (Write Pdml) files before after = ⊥
+CheckSays (Write Out) files before after = FindsAccepted files before (WrotePart before.outputs after.outputs standard)
+CheckSays (Database line code) files before after =
+    WroteNothing before after × IfSome (before.files files.db) (λ text. IsRefused text line code)
+CheckSays NoMemory files before after =
+    WroteNothing before after ⊎ FindsAccepted files before (WroteFront before.outputs after.outputs standard)
+CheckSays (Unbuilt which) files before after = ⊥
+
+-- which files were opened, whatever the host tells: the output only behind an accepted database
+abbrev pub CheckOpens : Status → CheckFiles → Outside → Outside → Type 0
+CheckOpens Done files before after = Opened (files.db ∷ []) (standard ∷ []) before after
+CheckOpens (Open Db) files before after = Opened [] [] before after
+CheckOpens (Open Out) files before after = Opened (files.db ∷ []) [] before after
+CheckOpens (Read Db) files before after = Opened (files.db ∷ []) [] before after
+CheckOpens (Write Out) files before after = Opened (files.db ∷ []) (standard ∷ []) before after
+CheckOpens (Database line code) files before after = Opened (files.db ∷ []) [] before after
+CheckOpens NoMemory files before after =
+    Opened [] [] before after ⊎ Opened (files.db ∷ []) [] before after
+    ⊎ Opened (files.db ∷ []) (standard ∷ []) before after
+CheckOpens never files before after = ⊥
