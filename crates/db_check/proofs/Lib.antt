@@ -1,0 +1,6 @@
+pub mod First
+pub mod Layers
+pub mod Kinds
+pub mod Rows
+pub mod Repeats
+pub mod Nested
