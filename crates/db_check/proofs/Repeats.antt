@@ -1,6 +1,6 @@
 -- A name is declared again exactly where its first place isn't its own.
 use Rattle.std.specs.Prelude.{◌≡◌, ℕ, zero, suc, ◌+◌, ◌<◌, nat_lt, Bool, true, false, ◌||◌, if◌then◌else◌, List, [], ◌∷◌, ◌++◌, map, length, drop, get_or, slice_get, bytes_eq, Option, Some, None}
-use Rattle.std.proofs.Common.{refl, ap, sym, ◌∙◌, arith}
+use Rattle.std.proofs.Common.{refl, ap, sym, ◌∙◌, append_assoc, arith}
 use Rattle.std.proofs.lemmas.List.{at_drop_more}
 use Rattle.db_model.specs.declared.fault.Fault.{Fault}
 use Rattle.db_model.specs.LeastFault.{earlier}
@@ -98,3 +98,32 @@ module _ {X : Type 0} (name : X → Text) (line : X → ℕ) where
       ap (λ b. earlier b (first 40 rest)) (n ∙ ap (earlier found) o)
       ∙ (earlier_assoc found (first 40 (at_line (line x) again)) (first 40 rest)
       ∙ (ap (earlier found) (sym (ap (first 40) here ∙ first_append 40 (at_line (line x) again) rest)) ∙ k))
+
+-- ---- one space in two lists
+
+names_onto : List Declared → List Text → List Text
+names_onto [] before = before
+names_onto (d ∷ ds) before = names_onto ds (d.0 ∷ before)
+
+repeated_append : (before : List Text) (ks cs : List Declared) → repeated before (ks ++ cs) ≡ repeated before ks ++ repeated (names_onto ks before) cs
+unfolding names_onto
+repeated_append before [] cs = refl
+repeated_append before (d ∷ ks) cs = ap (λ l. at_line d.1 (is_among d.0 before) ++ l) (repeated_append (d.0 ∷ before) ks cs) ∙ sym (append_assoc (at_line d.1 (is_among d.0 before)) (repeated (d.0 ∷ before) ks) (repeated (names_onto ks (d.0 ∷ before)) cs))
+
+or_swap : (a b c : Bool) → (a || (b || c)) ≡ ((b || a) || c)
+or_swap true true c = refl
+or_swap true false c = refl
+or_swap false true c = refl
+or_swap false false c = refl
+
+onto_among : (n : Text) (ds : List Declared) (before : List Text) → is_among n (names_onto ds before) ≡ (is_among n (map (λ (d : Declared). d.0) ds) || is_among n before)
+unfolding names_onto
+onto_among n [] before = refl
+onto_among n (d ∷ ds) before = onto_among n ds (d.0 ∷ before) ∙ or_swap (is_among n (map (λ (d : Declared). d.0) ds)) (bytes_eq n d.0) (is_among n before)
+
+repeated_same : (a b : List Text) → ((n : Text) → is_among n a ≡ is_among n b) → (ds : List Declared) → repeated a ds ≡ repeated b ds
+repeated_same a b h [] = refl
+repeated_same a b h (d ∷ ds) = λ i. at_line d.1 (h d.0 i) ++ repeated_same (d.0 ∷ a) (d.0 ∷ b) (λ n. ap (λ t. bytes_eq n d.0 || t) (h n)) ds i
+
+pub two_lists : (ks cs : List Declared) → repeated [] (ks ++ cs) ≡ repeated [] ks ++ repeated (map (λ (d : Declared). d.0) ks) cs
+two_lists ks cs = repeated_append [] ks cs ∙ ap (λ l. repeated [] ks ++ l) (repeated_same (names_onto ks []) (map (λ (d : Declared). d.0) ks) (λ n. onto_among n ks [] ∙ or_false (is_among n (map (λ (d : Declared). d.0) ks))) cs)

@@ -6,3 +6,8 @@ pub mod Around
 pub mod Heights
 pub mod Rows
 pub mod Repeats
+pub mod Known
+pub mod Entries
+pub mod Home
+pub mod Graph
+pub mod Uses
