@@ -4,3 +4,5 @@ pub mod Kinds
 pub mod Rows
 pub mod Repeats
 pub mod Nested
+pub mod Searched
+pub mod Cycles

@@ -16,7 +16,7 @@ use Rattle.db_check.proofs.First.{first_append}
 lt_suc : (a b : ℕ) → nat_lt (suc a) (suc b) ≡ nat_lt a b
 lt_suc a b = grind arith
 
-lt_zero : (a : ℕ) → nat_lt a zero ≡ false
+pub lt_zero : (a : ℕ) → nat_lt a zero ≡ false
 lt_zero a = grind arith
 
 zero_lt : (b : ℕ) → nat_lt zero (suc b) ≡ true
@@ -35,7 +35,7 @@ or_assoc true b c = refl
 or_assoc false b c = refl
 
 -- the first place of a name is before the next one where it is that name, or its place was before
-place_next : (n m : Text) (all : List Text) (i : ℕ) → slice_get all i ≡ Some m → nat_lt (place n all) (suc i) ≡ (bytes_eq n m || nat_lt (place n all) i)
+pub place_next : (n m : Text) (all : List Text) (i : ℕ) → slice_get all i ≡ Some m → nat_lt (place n all) (suc i) ≡ (bytes_eq n m || nat_lt (place n all) i)
 place_next n m [] i h = (cc)
 place_next n m (x ∷ all) zero h = let same : x ≡ m = cc in by (bytes_eq n x) ∙ ap (λ y. bytes_eq n y || nat_lt (place n (x ∷ all)) zero) same
   where

@@ -21,6 +21,7 @@ mod own;
 mod parts;
 mod repeats;
 mod rows;
+mod search;
 mod tables;
 mod uses;
 mod walk;
