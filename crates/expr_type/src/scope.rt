@@ -20,7 +20,6 @@ pub struct Scope<'a> {
 
 impl Scope<'_> {
     /// Whether a protocol of this name is declared.
-    #[tactic(auto, using(crate::proofs::Declared::among_is))]
     pub fn has_protocol(&self, name: &[u8]) -> bool
         requires { IsScope self.now }
         ensures { result ≡ is_protocol self.now.database.now name.now }
@@ -30,7 +29,6 @@ impl Scope<'_> {
     }
 
     /// The same for tables.
-    #[tactic(auto, using(crate::proofs::Declared::among_is))]
     pub fn has_table(&self, name: &[u8]) -> bool
         requires { IsScope self.now }
         ensures { result ≡ is_table self.now.database.now name.now }
@@ -40,7 +38,6 @@ impl Scope<'_> {
     }
 
     /// The same for variables, of which the special ones are not declared. The name stands without the `$`.
-    #[tactic(auto, using(crate::proofs::Declared::among_is))]
     pub fn declares_variable(&self, name: &[u8]) -> bool
         requires { IsScope self.now }
         ensures { result ≡ is_among name.now (map (λ d. d.name) self.now.database.now.variables) }
