@@ -16,7 +16,9 @@ use Rattle.db_model.specs.Names.{Text}
 use Rattle.db_model.specs.Numbering.{elements_in, fields_in, blocks_in}
 use Rattle.db_model.proofs.Layers.{fold_list, fold_case, fold_branch, fold_case_list, fold_other}
 use Rattle.db_check.specs.Layer.{own_at, inside_at, lines_of_cases, lines_of_other, lines_of_blocks}
-use Rattle.db_check.proofs.First.{over_append}
+use Rattle.db_check.proofs.FirstFault.{over_append, first_append}
+use Rattle.db_check.specs.First.{first}
+use Rattle.db_model.specs.LeastFault.{earlier}
 
 module _ (own : ElementOf Lines → Lines) where
   abbrev step : ElementOf Lines → Lines
@@ -60,3 +62,13 @@ module _ (own : ElementOf Lines → Lines) where
       ∙ ap (λ l. over (lines_of own) (before_in p.execute_code) ++ l)
         (over_append (lines_of own) (fields_in p.format) (after_in p.execute_code ++ elements_in p.encapsulation)
         ∙ ap (λ l. over (lines_of own) (fields_in p.format) ++ l) (over_append (lines_of own) (after_in p.execute_code) (elements_in p.encapsulation))))
+
+  pub parts_first : (k : ℕ) (p : Protocol) → first k (lines_in own p) ≡ earlier (earlier (first k (over (lines_of own) (before_in p.execute_code))) (earlier (first k (over (lines_of own) (fields_in p.format))) (earlier (first k (over (lines_of own) (after_in p.execute_code))) (first k (over (lines_of own) (elements_in p.encapsulation)))))) (first k (lines_of_blocks own (blocks_in p.format)))
+  parts_first k p =
+      let b : Lines = over (lines_of own) (before_in p.execute_code) in
+      let f : Lines = over (lines_of own) (fields_in p.format) in
+      let a : Lines = over (lines_of own) (after_in p.execute_code) in
+      let n : Lines = over (lines_of own) (elements_in p.encapsulation) in
+      ap (first k) (parts_are p)
+      ∙ (first_append k (b ++ (f ++ (a ++ n))) (lines_of_blocks own (blocks_in p.format))
+      ∙ ap (λ x. earlier x (first k (lines_of_blocks own (blocks_in p.format)))) (first_append k b (f ++ (a ++ n)) ∙ ap (earlier (first k b)) (first_append k f (a ++ n) ∙ ap (earlier (first k f)) (first_append k a n))))

@@ -1,8 +1,11 @@
-pub mod First
+pub mod FirstFault
 pub mod Layers
-pub mod Kinds
-pub mod Rows
-pub mod Repeats
-pub mod Nested
+pub mod FourKinds
+pub mod InRows
+pub mod Again
+pub mod Nesting
 pub mod Searched
-pub mod Cycles
+pub mod Including
+pub mod Whole
+pub mod Included
+pub mod Declarations

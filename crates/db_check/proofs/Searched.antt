@@ -1,5 +1,5 @@
 -- A search marks exactly what its start leads to: each number that is marked waits in the queue for its turn, and the queue has room for all of them.
-use Rattle.std.specs.Prelude.{◌≡◌, ◌⊎◌, ◌↔◌, ℕ, zero, suc, ◌+◌, ◌<◌, ◌≤◌, Bool, true, false, not, if◌then◌else◌, List, [], ◌∷◌, ◌++◌, map, length, slice_get, slice_set, Option, Some, None}
+use Rattle.std.specs.Prelude.{◌≡◌, ◌⊎◌, ◌↔◌, ℕ, zero, suc, ◌+◌, ◌-◌, ◌<◌, ◌≤◌, Bool, true, false, not, if◌then◌else◌, List, [], ◌∷◌, ◌++◌, map, length, slice_get, slice_set, Option, Some, None}
 use Rattle.std.proofs.Common.{refl, sym, ap, subst, ◌∙◌, arith, inl, inr}
 use Rattle.db_check.specs.declared.search.Search.{Search}
 use Rattle.db_check.specs.Graph.{Graph, targets, edges, IsOneOf, Leads, is_open, mark, visit, targets_at, go, is_marked, unmarked, leads_back}
@@ -303,13 +303,17 @@ as_many : (g : Graph) → length (map (λ (ts : List ℕ). false) g) ≡ length 
 as_many [] = refl
 as_many (ts ∷ g) = ap suc (as_many g)
 
+room_at_first : (g : Graph) → length (unmarked g).queue + opens (unmarked g).marks ≡ length g
+unfolding unmarked
+room_at_first g = let z : 0 + opens (map (λ (ts : List ℕ). false) g) ≡ opens (map (λ (ts : List ℕ). false) g) = omega arith in z ∙ all_open g
+
 beginning : (g : Graph) (a : ℕ) → Searched g a 0 (visit (edges g a) (unmarked g))
 unfolding unmarked
 beginning g a =
     let grown : Grown (Leads g a) (unmarked g) (visit (edges g a) (unmarked g)) = visit_grows (Leads g a) (edges g a) (unmarked g) (λ t o. Once a t o) in
     record {
       size = grown.size ∙ as_many g;
-      room = grown.room ∙ all_open g;
+      room = grown.room ∙ room_at_first g;
       sound = λ j m. sounds j (grown.new j m);
       queued = λ k j q. queues k j (grown.behind k j q);
       waits = λ j m. wait j (grown.new j m);
@@ -356,12 +360,36 @@ is_marked_by None h = (cc)
 is_marked_by (Some true) h = refl
 is_marked_by (Some false) h = (cc)
 
+abbrev at_end : Graph → ℕ → Search
+at_end g a = go g (length g) 0 (visit (edges g a) (unmarked g))
+
+all_searched : (g : Graph) (a : ℕ) → Searched g a (length g + 0) (at_end g a)
+all_searched g a = turns g a (length g) 0 (visit (edges g a) (unmarked g)) (beginning g a)
+
 pub search_is : (g : Graph) (a : ℕ) → (leads_back g (length g) a ≡ true) ↔ Leads g a a
 unfolding leads_back
-search_is g a = (λ h. i.sound a (is_marked_by (slice_get s.marks a) h), λ r. ap is_marked (complete g a (length g + 0) s i (omega arith) a a (inl refl) r (leads_within g a a r)))
-  where
-    abbrev s : Search
-    s = go g (length g) 0 (visit (edges g a) (unmarked g))
+search_is g a =
+    (λ h. (all_searched g a).sound a (is_marked_by (slice_get (at_end g a).marks a) h),
+    λ r. ap is_marked (complete g a (length g + 0) (at_end g a) (all_searched g a) (omega arith) a a (inl refl) r (leads_within g a a r)))
 
-    i : Searched g a (length g + 0) s
-    i = turns g a (length g) 0 (visit (edges g a) (unmarked g)) (beginning g a)
+-- ---- the code's turns
+
+pub turn_none : (g : Graph) (o : Option ℕ) (s : Search) → None ≡ o → s ≡ visit (targets_at g o) s
+unfolding visit
+turn_none g None s e = refl
+turn_none g (Some x) s e = (cc)
+
+pub go_next : (g : Graph) (n place : ℕ) (s t whole : Search) → place < n → t ≡ visit (targets_at g (slice_get s.queue place)) s → go g (n - place) place s ≡ whole → go g (n - (place + 1)) (place + 1) t ≡ whole
+unfolding go
+go_next g n place s t whole h e w =
+    let left : n - place ≡ suc (n - (place + 1)) = omega (arith, h) in
+    let next : place + 1 ≡ suc place = omega arith in
+    (λ i. go g (n - (place + 1)) (next i) (e i)) ∙ (sym (ap (λ (m : ℕ). go g m place s) left) ∙ w)
+
+pub go_end : (g : Graph) (n place : ℕ) (s whole : Search) → n ≤ place → go g (n - place) place s ≡ whole → s ≡ whole
+unfolding go
+go_end g n place s whole h w = let none : n - place ≡ 0 = omega (arith, h) in sym (ap (λ (m : ℕ). go g m place s) none) ∙ w
+
+pub found_is : (g : Graph) (a : ℕ) (s t : Search) → s ≡ go g (length g) 0 t → t ≡ visit (edges g a) (unmarked g) → is_marked (slice_get s.marks a) ≡ leads_back g (length g) a
+unfolding leads_back
+found_is g a s t e h = ap (λ (x : Search). is_marked (slice_get x.marks a)) (e ∙ ap (go g (length g) 0) h)

@@ -5,5 +5,5 @@ use Rattle.db_model.specs.LeastFault.{least}
 use Rattle.db_model.specs.Lines.{Lines}
 use Rattle.db_model.specs.Objection.{coded}
 
-unfoldable pub first : ℕ → Lines → Option Fault
+abbrev pub first : ℕ → Lines → Option Fault
 first code lines = least (coded code lines)

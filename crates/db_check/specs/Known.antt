@@ -1,5 +1,5 @@
 -- What is known of a database by name, and the faults of a protocol and its elements.
-use Rattle.std.specs.Prelude.{Bool, false, not, ◌++◌, map, Option}
+use Rattle.std.specs.Prelude.{Bool, false, not, ◌++◌, List, map, Option}
 use Rattle.db_model.specs.declared.database.Database.{Database}
 use Rattle.db_model.specs.declared.database.Protocol.{Protocol}
 use Rattle.db_model.specs.Forms.{if_there}
@@ -29,6 +29,9 @@ summary_fails db kind.Types showsum = false
 summary_fails db kind.Numbers showsum = false
 summary_fails db kind.Tables showsum = false
 
--- the lines of a protocol itself and of its elements
+-- the lines of a protocol itself and of its elements, whose fields have these names
+abbrev pub lines_by : Database → List Text → Kind → Protocol → Lines
+lines_by db fields k p = at_line p.line (summary_fails db k p.showsum) ++ lines_in (own_of db fields (block_names p) k) p
+
 abbrev pub protocol_lines : Database → Kind → Protocol → Lines
-protocol_lines db k p = at_line p.line (summary_fails db k p.showsum) ++ lines_in (own_of db (field_names p) (block_names p) k) p
+protocol_lines db k p = lines_by db (field_names p) k p

@@ -29,6 +29,13 @@ code kind.Types = 42
 code kind.Numbers = 43
 code kind.Tables = 47
 
+-- the numbers of a case
+abbrev pub case_fails : Kind → ℕ → ℕ → Bool
+case_fails kind.Names low high = false
+case_fails kind.Types low high = false
+case_fails kind.Numbers low high = nat_lt high low
+case_fails kind.Tables low high = false
+
 module _ (db : Database) (fields blocks : List Text) where
   -- an expression whose type has to be the wanted one
   abbrev pub fails : Kind → Option Ty → Expr → Bool
@@ -60,12 +67,6 @@ module _ (db : Database) (fields blocks : List Text) where
   include_fails kind.Types name = false
   include_fails kind.Numbers name = false
   include_fails kind.Tables name = false
-
-  abbrev pub case_fails : Kind → ℕ → ℕ → Bool
-  case_fails kind.Names low high = false
-  case_fails kind.Types low high = false
-  case_fails kind.Numbers low high = nat_lt high low
-  case_fails kind.Tables low high = false
 
   abbrev pub assign_fails : Kind → Text → Expr → Bool
   assign_fails kind.Names name e = fails kind.Names (Some Num) e || (is_among name special_names || not (is_among name (map (λ d. d.name) db.variables)))

@@ -21,7 +21,6 @@ pub struct Around<'a> {
 }
 
 impl Around<'_> {
-    #[tactic(auto, using(expr_type::proofs::Declared::among_is))]
     pub fn has_template(&self, name: &[u8]) -> bool
         requires { IsAround self.now }
         ensures { result ≡ is_template self.now.scope.database.now self.now.scope.fields.now (block_names self.now.protocol.now) name.now }
@@ -30,7 +29,6 @@ impl Around<'_> {
         self.shows.place_of(name, count) < count
     }
 
-    #[tactic(auto, using(expr_type::proofs::Declared::among_is))]
     pub fn has_block(&self, name: &[u8]) -> bool
         requires { IsAround self.now }
         ensures { result ≡ is_among name.now (block_names self.now.protocol.now) }

@@ -3,7 +3,6 @@
 ghost use Rattle.std.specs.Prelude.{◌≡◌, ◌++◌, OnOk, IfOk};
 ghost use Rattle.db_model.specs.BlockFaults.{includes_of, includes_in, protocol_45};
 ghost use Rattle.db_model.specs.NameFaults.{block_names};
-ghost use Rattle.db_model.specs.Numbering.{blocks_in};
 ghost use Rattle.db_check.specs.First.{first};
 ghost use Rattle.db_check.specs.Graph.{numbers, includes_of_cases, includes_of_other, graph_of, leads_here, cycles_from};
 ghost use Rattle.db_check.specs.Home.{IsHome};
@@ -110,12 +109,17 @@ fn leads_here(alloc: Global, graph: &Graph, number: usize, name: &Name, home: &H
     leads_back(alloc, graph, number)
 }
 
-fn in_graph(alloc: Global, graph: &Graph, home: &Home) -> Result<Option<Fault>, NoMemory>
+fn in_graph(
+    alloc: Global,
+    graph: &Graph,
+    blocks: &[NamedBlock],
+    home: &Home,
+) -> Result<Option<Fault>, NoMemory>
     requires { IsHome home.now }
-    ensures { IfOk result (λ f. f ≡ first 45 (cycles_from graph.now (block_names home.now.protocol.now) 0 (blocks_in home.now.protocol.now.format))) }
+    ensures { IfOk result (λ f. f ≡ first 45 (cycles_from graph.now (block_names home.now.protocol.now) 0 blocks.now)) }
 {
     let mut found = None;
-    for (number, block) in parts::named_blocks(home.protocol).iter().enumerate() {
+    for (number, block) in blocks.iter().enumerate() {
         let wrong = leads_here(alloc, graph, number, &block.name, home)?;
         found = Fault::earlier(found, at_line(block.line, 45, wrong));
     }
@@ -129,5 +133,5 @@ pub fn cycles(alloc: Global, home: &Home) -> Result<Option<Fault>, NoMemory>
 {
     cycles_found();
     let graph = graph(alloc, home)?;
-    in_graph(alloc, &graph, home)
+    in_graph(alloc, &graph, parts::named_blocks(home.protocol), home)
 }

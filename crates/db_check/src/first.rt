@@ -5,7 +5,6 @@ ghost use Rattle.db_model.specs.Lines;
 use db_model::Fault;
 
 /// The fault of this code at a line, where it stands.
-#[tactic(auto, unfolding(crate::specs::First::first))]
 pub fn at_line(line: u32, code: u8, stands: bool) -> Option<Fault>
     ensures { result ≡ first code (Lines.at_line line stands) }
 {

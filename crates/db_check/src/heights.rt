@@ -1,6 +1,6 @@
 //! How high blocks and loops stand in one another, included ones counted.
 
-ghost use Rattle.std.specs.Prelude.{◌≡◌, max, map, nat_lt, IfOk};
+ghost use Rattle.std.specs.Prelude.{◌≡◌, ◌&&◌, max, map, nat_lt, IfOk};
 ghost use Rattle.std.specs.List.{list_all};
 ghost use Rattle.db_model.specs.Chain.{elements_of};
 ghost use Rattle.db_model.specs.Numbering.{blocks_in};
@@ -131,6 +131,7 @@ fn next_heights(alloc: Global, heights: &[u32], home: &Home) -> Result<Sequence<
 }
 
 /// The heights of the named blocks. Each is right, since it is one that is told apart.
+#[tactic(auto, using(crate::proofs::Nesting::after_none, crate::proofs::Nesting::after_next))]
 pub fn heights_of(alloc: Global, home: &Home) -> Result<Sequence<u32>, NoMemory>
     requires { IsHome home.now }
     ensures { IfOk result (λ heights. heights ≡ heights_after home.now.protocol.now TOO_HIGH) }
@@ -160,11 +161,17 @@ fn are_low(heights: &[u32]) -> bool
     heights.iter().all(|height| *height < TOO_HIGH)
 }
 
+fn both(a: bool, b: bool) -> bool
+    ensures { result ≡ (a && b) }
+{
+    a && b
+}
+
 /// Whether no block or loop of the protocol stands too deep in others.
 pub fn is_within(heights: &[u32], home: &Home) -> bool
-    requires { IsHome home.now }
+    requires home { IsHome home.now }
     requires heights { heights.now ≡ heights_after home.now.protocol.now TOO_HIGH }
     ensures { result ≡ protocol_within home.now.protocol.now }
 {
-    of_run(heights, home) < TOO_HIGH && are_low(heights)
+    both(of_run(heights, home) < TOO_HIGH, are_low(heights))
 }

@@ -3,7 +3,8 @@ ghost use Rattle.db_model.specs.Forms.{if_there};
 ghost use Rattle.db_model.specs.Lines.{over};
 ghost use Rattle.db_model.specs.Typing.{is_among, is_protocol};
 ghost use Rattle.db_check.specs.First.{first};
-ghost use Rattle.db_check.specs.Known.{IsKnown, lacks_summary, summary_fails, protocol_lines};
+ghost use Rattle.db_model.specs.NameIndex.{IsPlaces};
+ghost use Rattle.db_check.specs.Known.{IsKnown, lines_by, lacks_summary, summary_fails, protocol_lines};
 ghost use Rattle.db_check.specs.Own.{code};
 
 use crate::around::Around;
@@ -26,9 +27,8 @@ pub struct Known<'a> {
     pub sums: &'a Places,
 }
 
-impl Known<'_> {
+impl<'a> Known<'a> {
     /// Whether a protocol of this name is declared.
-    #[tactic(auto, using(expr_type::proofs::Declared::among_is))]
     pub fn has_protocol(&self, name: &[u8]) -> bool
         requires { IsKnown self.now }
         ensures { result ≡ is_protocol self.now.database.now name.now }
@@ -37,7 +37,6 @@ impl Known<'_> {
         place < self.database.protocols.as_slice().len()
     }
 
-    #[tactic(auto, using(expr_type::proofs::Declared::among_is))]
     fn has_summary(&self, name: &[u8]) -> bool
         requires { IsKnown self.now }
         ensures { result ≡ is_among name.now (map (λ d. d.name) self.now.database.now.sum_templates) }
@@ -74,29 +73,15 @@ impl Known<'_> {
         alloc: Global,
         kind: Kind,
         number: usize,
-        protocol: &Protocol,
+        protocol: &'a Protocol,
     ) -> Result<Option<Fault>, NoMemory>
-        requires { IsKnown self.now }
+        requires known { IsKnown self.now }
         requires there { slice_get self.now.database.now.protocols number ≡ Some protocol.now }
         ensures { IfOk result (λ f. f ≡ first (code kind) (protocol_lines self.now.database.now kind protocol.now)) }
     {
         let fields = field_names(alloc, protocol)?;
         let places = Places::of(alloc, fields.as_slice())?;
-        let scope = Scope {
-            database: self.database,
-            names: self.names,
-            fields: fields.as_slice(),
-            places: &places,
-        };
-        let around = Around {
-            scope,
-            shows: self.shows,
-            number,
-            protocol,
-        };
-        let wrong = self.summary_fails(kind, &protocol.showsum);
-        let own = at_line(protocol.line, kind.code(), wrong);
-        Ok(Fault::earlier(own, in_protocol(kind, &around)))
+        Ok(in_scope(self, kind, number, protocol, fields.as_slice(), &places))
     }
 
     /// The least fault of this kind in all protocols.
@@ -104,10 +89,54 @@ impl Known<'_> {
         requires { IsKnown self.now }
         ensures { IfOk result (λ f. f ≡ first (code kind) (over (protocol_lines self.now.database.now kind) self.now.database.now.protocols)) }
     {
+        self.in_each(alloc, kind, self.database.protocols.as_slice())
+    }
+
+    fn in_each(
+        &self,
+        alloc: Global,
+        kind: Kind,
+        protocols: &'a [Protocol],
+    ) -> Result<Option<Fault>, NoMemory>
+        requires known { IsKnown self.now }
+        requires all { protocols.now ≡ self.now.database.now.protocols }
+        ensures { IfOk result (λ f. f ≡ first (code kind) (over (protocol_lines self.now.database.now kind) protocols.now)) }
+    {
         let mut found = None;
-        for (number, protocol) in self.database.protocols.as_slice().iter().enumerate() {
+        for (number, protocol) in protocols.iter().enumerate() {
             found = Fault::earlier(found, self.in_one(alloc, kind, number, protocol)?);
         }
         Ok(found)
     }
+}
+
+/// The same, where the names of the fields are known.
+fn in_scope<'x>(
+    known: &Known<'x>,
+    kind: Kind,
+    number: usize,
+    protocol: &'x Protocol,
+    fields: &'x [Name],
+    places: &'x Places,
+) -> Option<Fault>
+    requires known { IsKnown known.now }
+    requires there { slice_get known.now.database.now.protocols number ≡ Some protocol.now }
+    requires places { IsPlaces fields.now places.now }
+    ensures { result ≡ first (code kind) (lines_by known.now.database.now fields.now kind protocol.now) }
+{
+    let scope = Scope {
+        database: known.database,
+        names: known.names,
+        fields,
+        places,
+    };
+    let around = Around {
+        scope,
+        shows: known.shows,
+        number,
+        protocol,
+    };
+    let wrong = known.summary_fails(kind, &protocol.showsum);
+    let own = at_line(protocol.line, kind.code(), wrong);
+    Fault::earlier(own, in_protocol(kind, &around))
 }

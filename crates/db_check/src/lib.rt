@@ -4,12 +4,13 @@
 #![tactic(auto)]
 
 mod around;
-mod check;
+
 mod cycles;
 mod field_names;
 mod first;
 mod heights;
 mod home;
+mod judge;
 mod kind;
 mod known;
 mod limits;
@@ -26,4 +27,4 @@ mod tables;
 mod uses;
 mod walk;
 
-pub use check::check;
+pub use judge::check;

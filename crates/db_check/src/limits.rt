@@ -1,7 +1,7 @@
 //! Numbers that are out of their limits.
 
-ghost use Rattle.std.specs.Prelude.{◌≡◌, ◌^◌, nat_le, false};
-ghost use Rattle.db_model.specs.declared.limits.TheConstants.{MOST_BIT_SIZE};
+ghost use Rattle.std.specs.Prelude.{◌≡◌, ◌^◌, nat_le, length, false};
+ghost use Rattle.db_model.specs.declared.limits.TheConstants.{MOST_BIT_SIZE, MOST_TOKEN};
 ghost use Rattle.db_model.specs.NumberFaults;
 
 use db_model::{
@@ -28,6 +28,12 @@ fn is_too_wide(size: u32, mask: u32) -> bool
     }
 }
 
+fn is_long(token: &[u8]) -> bool
+    ensures { result ≡ NumberFaults.is_outside 1 MOST_TOKEN (length token.now) }
+{
+    token.is_empty() || token.len() > MOST_TOKEN as usize
+}
+
 pub fn form_is_outside(form: &FieldForm) -> bool
     ensures { result ≡ NumberFaults.form_is_outside form.now }
 {
@@ -37,7 +43,7 @@ pub fn form_is_outside(form: &FieldForm) -> bool
             is_outside(1, MOST_BIT_SIZE, *size) || *mask == 0 || is_too_wide(*size, *mask)
         }
         FieldForm::Variable { .. } => false,
-        FieldForm::TokenEnded { token } => { let length = token.as_slice().len(); length == 0 || MOST_TOKEN as usize < length },
+        FieldForm::TokenEnded { token } => is_long(token.as_slice()),
         FieldForm::Line => false,
         FieldForm::Padding { align } => is_outside(LEAST_ALIGNMENT, MOST_ALIGNMENT, *align),
     }

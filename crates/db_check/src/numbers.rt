@@ -46,7 +46,7 @@ fn has_too_many_entries(before: u64, table: &TableDecl) -> bool
 }
 
 /// The least fault of a table and what it declares.
-#[tactic(auto, using(crate::proofs::First::first_append))]
+#[tactic(auto, using(crate::proofs::FirstFault::first_append))]
 fn of_table(before: u64, table: &TableDecl) -> Option<Fault>
     ensures { result ≡ first 43 (table_lines before table.now) }
 {

@@ -14,8 +14,8 @@ ghost use Rattle.db_check.specs.Known.{IsKnown};
 use crate::first::at_line;
 use crate::kind::Kind;
 use crate::known::Known;
-use crate::nested::nested;
-use crate::{numbers, repeats, rows, uses};
+
+use crate::{nested, numbers, repeats, rows, uses};
 use db_model::{
     Database, Fault, MOST_PROTOCOLS, MOST_SHOW_TEMPLATES, MOST_SUM_TEMPLATES, MOST_TABLES,
     MOST_VARIABLES, NameIndex, NoMemory, Places,
@@ -23,6 +23,7 @@ use db_model::{
 use std::alloc::Global;
 
 /// Names that are used and aren't declared.
+#[tactic(auto, using(crate::proofs::Whole::all_41))]
 fn of_names(alloc: Global, known: &Known) -> Result<Option<Fault>, NoMemory>
     requires { IsKnown known.now }
     ensures { IfOk result (λ f. f ≡ first 41 (fault_41 known.now.database.now)) }
@@ -37,6 +38,7 @@ fn of_names(alloc: Global, known: &Known) -> Result<Option<Fault>, NoMemory>
 }
 
 /// Types that aren't the wanted ones.
+#[tactic(auto, using(crate::proofs::Whole::all_42))]
 fn of_types(alloc: Global, known: &Known) -> Result<Option<Fault>, NoMemory>
     requires { IsKnown known.now }
     ensures { IfOk result (λ f. f ≡ first 42 (fault_42 known.now.database.now)) }
@@ -47,6 +49,7 @@ fn of_types(alloc: Global, known: &Known) -> Result<Option<Fault>, NoMemory>
 }
 
 /// Declarations of which there are too many.
+#[tactic(auto, using(crate::proofs::Whole::counts_are))]
 fn of_counts(database: &Database) -> Option<Fault>
     ensures { result ≡ first 43 (counts_43 database.now) }
 {
@@ -61,6 +64,7 @@ fn of_counts(database: &Database) -> Option<Fault>
 }
 
 /// Numbers that are out of their limits.
+#[tactic(auto, using(crate::proofs::Whole::all_43))]
 fn of_numbers(alloc: Global, known: &Known) -> Result<Option<Fault>, NoMemory>
     requires { IsKnown known.now }
     ensures { IfOk result (λ f. f ≡ first 43 (fault_43 known.now.database.now)) }
@@ -74,17 +78,15 @@ fn of_numbers(alloc: Global, known: &Known) -> Result<Option<Fault>, NoMemory>
 }
 
 /// Bit fields that aren't followed by their like.
+#[tactic(auto, using(crate::proofs::Whole::all_44))]
 fn of_rows(database: &Database) -> Option<Fault>
     ensures { result ≡ first 44 (fault_44 database.now) }
 {
-    let mut found = None;
-    for protocol in database.protocols.as_slice() {
-        found = Fault::earlier(found, rows::in_protocol(protocol));
-    }
-    found
+    rows::in_protocols(database.protocols.as_slice())
 }
 
 /// Updates and look-ups that don't fit their table.
+#[tactic(auto, using(crate::proofs::Whole::all_47))]
 fn of_tables(alloc: Global, known: &Known) -> Result<Option<Fault>, NoMemory>
     requires { IsKnown known.now }
     ensures { IfOk result (λ f. f ≡ first 47 (fault_47 known.now.database.now)) }
@@ -93,6 +95,7 @@ fn of_tables(alloc: Global, known: &Known) -> Result<Option<Fault>, NoMemory>
 }
 
 /// The fault of the least line, and there of the least code, of all that stand in a database.
+#[tactic(auto, using(crate::proofs::Whole::objection_is))]
 pub fn objection(
     alloc: Global,
     database: &Database,
@@ -114,9 +117,9 @@ pub fn objection(
     let types = of_types(alloc, &known)?;
     let numbers = of_numbers(alloc, &known)?;
     let rows = of_rows(database);
-    let nested = nested(alloc, &known)?;
+    let blocks = nested::of_protocols(alloc, &known)?;
     let tables = of_tables(alloc, &known)?;
-    let blocks = Fault::earlier(nested.cycles, Fault::earlier(nested.depths, tables));
-    let lists = Fault::earlier(numbers, Fault::earlier(rows, blocks));
+    let included = Fault::earlier(blocks.cycles, Fault::earlier(blocks.depths, tables));
+    let lists = Fault::earlier(numbers, Fault::earlier(rows, included));
     Ok(Fault::earlier(again, Fault::earlier(names, Fault::earlier(types, lists))))
 }

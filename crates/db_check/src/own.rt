@@ -1,6 +1,6 @@
 //! The faults of an element itself: what fails of its expressions, its numbers and its names.
 
-ghost use Rattle.std.specs.Prelude.{◌≡◌, Some};
+ghost use Rattle.std.specs.Prelude.{◌≡◌, ◌++◌, Some, option_map, slice_get};
 ghost use Rattle.db_model.specs.Lines.{over};
 ghost use Rattle.db_model.specs.Lines;
 ghost use Rattle.db_model.specs.NameFaults.{block_names};
@@ -8,6 +8,7 @@ ghost use Rattle.db_model.specs.TypeFaults;
 ghost use Rattle.db_model.specs.TypeFaults.{column_wants};
 ghost use Rattle.db_model.specs.Typing.{is_among};
 ghost use Rattle.db_model.specs.Special.{special_names};
+ghost use Rattle.db_model.specs.declared.database.ColumnDecl.{ColumnDecl};
 ghost use Rattle.db_model.specs.declared.element.Case.{Case};
 ghost use Rattle.db_model.specs.declared.value.Ty.TheVariants.{Num};
 ghost use Rattle.db_check.specs.Around.{IsAround, own_in};
@@ -176,6 +177,16 @@ fn of_keys(kind: Kind, keys: &[UpdateKey], around: &Around) -> Option<Fault>
     found
 }
 
+/// The type of the column at a place.
+fn wanted_at(columns: &[ColumnDecl], place: usize) -> Option<Ty>
+    ensures { result ≡ option_map (λ (c : ColumnDecl). c.ty) (slice_get columns.now place) }
+{
+    match columns.get(place) {
+        Some(column) => Some(column.ty),
+        None => None,
+    }
+}
+
 /// The values of a row, each of which has to have the type of its column.
 fn of_row(kind: Kind, columns: &[ColumnDecl], row: &[UpdateValue], around: &Around) -> Option<Fault>
     requires { IsAround around.now }
@@ -183,11 +194,7 @@ fn of_row(kind: Kind, columns: &[ColumnDecl], row: &[UpdateValue], around: &Arou
 {
     let mut found = None;
     for (i, value) in row.iter().enumerate() {
-        let wanted = match columns.get(i) {
-            Some(column) => Some(column.ty),
-            None => None,
-        };
-        let wrong = fails(kind, wanted, &value.value, around);
+        let wrong = fails(kind, wanted_at(columns, i), &value.value, around);
         found = Fault::earlier(found, at_line(value.line, kind.code(), wrong));
     }
     found
@@ -215,6 +222,7 @@ fn of_cases(kind: Kind, cases: &[Case]) -> Option<Fault>
     found
 }
 
+#[tactic(auto, using(crate::proofs::FirstFault::first_append))]
 fn of_parts(
     kind: Kind,
     table: &Name,
@@ -232,6 +240,24 @@ fn of_parts(
         of_keys(kind, keys, around),
         of_row(kind, columns, row, around),
     )
+}
+
+#[tactic(auto, using(crate::proofs::FirstFault::first_append))]
+fn of_update(
+    kind: Kind,
+    line: u32,
+    table: &Name,
+    times: Times,
+    keys: &[UpdateKey],
+    row: &[UpdateValue],
+    around: &Around,
+) -> Option<Fault>
+    requires { IsAround around.now }
+    ensures { result ≡ first (code kind) (Lines.at_line line (Own.update_fails around.now.scope.database.now around.now.scope.fields.now (block_names around.now.protocol.now) kind table.now times.validity times.keep times.hit keys.now row.now) ++ Own.update_lines around.now.scope.database.now around.now.scope.fields.now (block_names around.now.protocol.now) kind table.now keys.now row.now) }
+{
+    let wrong = update_fails(kind, table, times, keys, row, around);
+    let own = at_line(line, kind.code(), wrong);
+    Fault::earlier(own, of_parts(kind, table, keys, row, around))
 }
 
 /// The least fault of this kind of an element itself.
@@ -274,12 +300,7 @@ pub fn own(kind: Kind, element: &Element, around: &Around) -> Option<Fault>
                 hit: *hit,
             };
             let keys = keys.as_slice();
-            let row = row.as_slice();
-            let wrong = update_fails(kind, table, times, keys, row, around);
-            Fault::earlier(
-                at_line(*line, kind.code(), wrong),
-                of_parts(kind, table, keys, row, around),
-            )
+            of_update(kind, *line, table, times, keys, row.as_slice(), around)
         }
         Element::NextProto { line, proto } => {
             let wrong = fails(kind, Some(Ty::Proto), proto, around);

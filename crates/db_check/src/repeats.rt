@@ -1,6 +1,6 @@
 //! Names that are declared twice.
 
-ghost use Rattle.std.specs.Prelude.{◌≡◌, [], ◌∷◌, map, IfOk};
+ghost use Rattle.std.specs.Prelude.{◌≡◌, ◌||◌, [], ◌∷◌, map, nat_lt, IfOk};
 ghost use Rattle.db_model.specs.Lines.{over, over_option};
 ghost use Rattle.db_model.specs.NameFaults.{repeated, repeated_in_table, repeated_blocks, repeated_sections, payload_name, fault_40};
 ghost use Rattle.db_model.specs.Special.{special_names};
@@ -17,11 +17,17 @@ use db_model::{
 use std::alloc::Global;
 
 /// Whether a name is that of one of these, of which there are few.
-#[tactic(auto, using(expr_type::proofs::Declared::declared_among))]
-fn is_one_of<T: Declaration>(name: &[u8], declared: &[T]) -> bool
+pub fn is_one_of<T: Declaration>(name: &[u8], declared: &[T]) -> bool
     ensures { result ≡ is_among name.now (map T.named declared.now) }
 {
     place_of(name, declared) < declared.len()
+}
+
+/// Whether a name is declared before this number, or is that of one of these.
+fn stands_before<B: Declaration>(place: usize, number: usize, name: &[u8], taken: &[B]) -> bool
+    ensures { result ≡ (nat_lt place number || is_among name.now (map B.named taken.now)) }
+{
+    place < number || is_one_of(name, taken)
 }
 
 /// The least fault of declarations of one space, behind a few whose names are taken.
@@ -36,8 +42,8 @@ pub fn repeated<B: Declaration, T: Located>(
     let mut found = None;
     for (i, declaration) in declared.iter().enumerate() {
         let name = declaration.name();
-        let is_later = places.place_of(name, declared.len()) < i;
-        let again = is_later || is_one_of(name, taken);
+        let place = places.place_of(name, declared.len());
+        let again = stands_before(place, i, name, taken);
         found = Fault::earlier(found, at_line(declaration.line(), 40, again));
     }
     Ok(found)
@@ -135,7 +141,6 @@ fn in_protocols(alloc: Global, protocols: &[Protocol]) -> Result<Option<Fault>, 
 }
 
 /// The least fault of a name that is declared before, or may not be declared.
-#[tactic(auto, using(crate::proofs::First::first_append), unfolding(db_model::specs::NameFaults::fault_40))]
 pub fn in_database(alloc: Global, database: &Database) -> Result<Option<Fault>, NoMemory>
     ensures { IfOk result (λ f. f ≡ first 40 (fault_40 database.now)) }
 {

@@ -1,6 +1,7 @@
 //! Bit fields that aren't followed by their like.
 
 ghost use Rattle.std.specs.Prelude.{◌≡◌, map};
+ghost use Rattle.db_model.specs.Lines.{over};
 ghost use Rattle.db_model.specs.NumberFaults;
 ghost use Rattle.db_check.specs.First.{first};
 ghost use Rattle.db_check.specs.Rows.{in_row_of, rows_of_cases, rows_of_other, rows_of_blocks, rows_in};
@@ -92,12 +93,10 @@ fn of_list(elements: &[Element]) -> Option<Fault>
     ensures { result ≡ first 44 (NumberFaults.list_44 elements.now) }
 {
     let mut found = None;
-    let mut rest = elements;
-    while let [element, behind @ ..] = rest {
-        let wrong = is_unfollowed(bit_of(element), behind);
+    for (i, element) in elements.iter().enumerate() {
+        let wrong = is_unfollowed(bit_of(element), &elements[i + 1..]);
         let own = at_line(line_of(element), 44, wrong);
         found = Fault::earlier(found, Fault::earlier(own, within(element)));
-        rest = behind;
     }
     found
 }
@@ -156,12 +155,22 @@ fn of_blocks(blocks: &[NamedBlock]) -> Option<Fault>
 }
 
 /// The least fault of this kind in the fields of a protocol.
-#[tactic(auto, using(crate::proofs::First::first_append))]
-pub fn in_protocol(protocol: &Protocol) -> Option<Fault>
+#[tactic(auto, using(crate::proofs::FirstFault::first_append))]
+fn in_protocol(protocol: &Protocol) -> Option<Fault>
     ensures { result ≡ first 44 (rows_in protocol.now) }
 {
     Fault::earlier(
         of_list(parts::fields(protocol)),
         of_blocks(parts::named_blocks(protocol)),
     )
+}
+
+pub fn in_protocols(protocols: &[Protocol]) -> Option<Fault>
+    ensures { result ≡ first 44 (over rows_in protocols.now) }
+{
+    let mut found = None;
+    for protocol in protocols {
+        found = Fault::earlier(found, in_protocol(protocol));
+    }
+    found
 }

@@ -49,6 +49,7 @@ impl Search {
         }
     }
 
+    #[tactic(auto, unfolding(crate::specs::Graph::visit))]
     fn visit(&mut self, targets: &[usize]) -> Result<(), NoMemory>
         ensures { OnOk result (self.new ≡ Graph.visit targets.now self.old) }
     {
@@ -62,10 +63,11 @@ impl Search {
     fn turn(&mut self, graph: &Graph, place: usize) -> Result<(), NoMemory>
         ensures { OnOk result (self.new ≡ Graph.visit (Graph.targets_at graph.now (slice_get self.old.queue place)) self.old) }
     {
-        match self.queue.get(place) {
-            None => Ok(()),
-            Some(number) => self.visit(targets_of(graph, *number)),
-        }
+        let number = match self.queue.get(place) {
+            None => return Ok(()),
+            Some(number) => *number,
+        };
+        self.visit(targets_of(graph, number))
     }
 
     fn is_marked(&self, number: usize) -> bool

@@ -11,7 +11,8 @@ ghost use Rattle.db_model.specs.Typing.{is_among};
 
 use crate::first::at_line;
 use crate::known::Known;
-use db_model::{Fault, Literal, Name, SumItem, SumStruct, SumTemplate, Ty, VarDecl, place_of};
+use crate::repeats::is_one_of;
+use db_model::{Fault, Literal, Name, SumItem, SumStruct, SumTemplate, Ty, VarDecl};
 
 fn literal_is_unknown(literal: &Literal, known: &Known) -> bool
     requires { IsKnown known.now }
@@ -61,16 +62,12 @@ pub fn wrong_literals(variables: &[VarDecl], known: &Known) -> Option<Fault>
 }
 
 /// Whether a summary has a section of this name.
-#[tactic(auto, using(expr_type::proofs::Declared::among_is))]
 fn has_section(summary: &Option<SumStruct>, name: &Name) -> bool
     ensures { result ≡ is_among name.now (NameFaults.sections_of summary.now) }
 {
     match summary {
         None => false,
-        Some(summary) => {
-            let sections = summary.sections.as_slice();
-            place_of(name.as_slice(), sections) < sections.len()
-        }
+        Some(summary) => is_one_of(name.as_slice(), summary.sections.as_slice()),
     }
 }
 

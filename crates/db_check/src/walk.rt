@@ -98,6 +98,7 @@ fn of_blocks(kind: Kind, blocks: &[NamedBlock], around: &Around) -> Option<Fault
 }
 
 /// The least fault of this kind in the elements of the protocol.
+#[tactic(auto, using(crate::proofs::Layers::parts_first))]
 pub fn in_protocol(kind: Kind, around: &Around) -> Option<Fault>
     requires { IsAround around.now }
     ensures { result ≡ first (code kind) (lines_in (own_in around.now kind) around.now.protocol.now) }
