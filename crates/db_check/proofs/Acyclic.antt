@@ -1,5 +1,5 @@
 -- A name that leads back to itself has a height in each round that is no less than the round. So where all heights are low, no name does.
-use Rattle.std.specs.Prelude.{◌≡◌, ◌⊎◌, ℕ, zero, suc, min, max, ◌<◌, ◌≤◌, nat_lt, Bool, true, false, not, ◌||◌, ◌&&◌, List, [], ◌∷◌, ◌++◌, map, slice_get, unwrap_or, bytes_eq, Option, Some, None}
+use Rattle.std.specs.Prelude.{◌≡◌, ◌⊎◌, ℕ, zero, suc, min, max, ◌<◌, ◌≤◌, nat_lt, Bool, true, false, not, ◌||◌, ◌&&◌, List, [], ◌∷◌, ◌++◌, map, slice_get, unwrap_or, bytes_eq, is_some, Option, Some, None}
 use Rattle.std.specs.List.{list_any, list_all}
 use Rattle.std.specs.Cmp.Lexicographic.{bytes_decides}
 use Rattle.std.proofs.Common.{refl, ap, sym, subst, ◌∙◌, arith, inl, inr}
@@ -19,8 +19,9 @@ use Rattle.db_model.specs.Names.{Text, place}
 use Rattle.db_model.specs.Numbering.{BlockAt, block_at, blocks_in, counts_in, fields_in, all_names, case_names, branch_names}
 use Rattle.db_laws.specs.Laws.{CyclesFound}
 use Rattle.db_check.specs.declared.heights.TheConstants.{TOO_HIGH}
+use Rattle.db_check.specs.First.{first}
 use Rattle.db_check.specs.Heights.{raised, tallest, case_heights, branch_height, height_step, height_of, height_in, height_at, next_heights, heights_after}
-use Rattle.db_check.proofs.Nesting.{height_by, body_height, within_is, after_none, after_one}
+use Rattle.db_check.proofs.Nesting.{height_by, body_height, within_is, deep_is, after_none, after_one}
 
 abbrev In : Text → List Text → Type 0
 In x xs = list_any (bytes_eq x) xs ≡ true
@@ -34,47 +35,56 @@ in_either x a b h = either (list_any (bytes_eq x) a) (list_any (bytes_eq x) b) (
 
 -- ---- an included block is no higher than where it is included, up to the height that is too great
 
+pick : {A B P : Type 0} → A ⊎ B → (A → P) → (B → P) → P
+pick (inl a) f g = f a
+pick (inr b) f g = g b
+
+left_of : (x a b : ℕ) → x ≤ a → x ≤ max a b
+left_of x a b h = omega (arith, h)
+
+right_of : (x a b : ℕ) → x ≤ b → x ≤ max a b
+right_of x a b h = omega (arith, h)
+
+under : (x a : ℕ) → x ≤ TOO_HIGH → x ≤ a → x ≤ raised a
+under x a l h = omega (arith, l, h)
+
+same_height : (I : Text → ℕ) (x name : Text) (b : Bool) → bytes_eq x name ≡ b → (b || false) ≡ true → I x ≤ I name
+same_height I x name true e h = let n : x ≡ name = (bytes_decides x name).0 e in subst (λ (t : Text). I x ≤ I t) n (omega arith)
+same_height I x name false e h = (cc)
+
 module _ (I : Text → ℕ) (x : Text) (low : I x ≤ TOO_HIGH) where
   mutual
     below_of : (e : Element) → In x (includes_of e) → I x ≤ height_of I e
     below_of (element.Field line name form longname show) h = (cc)
-    below_of (element.Block' line name longname s body) h = let r = below_row body h in omega (arith, r, low)
-    below_of (element.IncludeBlock line name) h = same (bytes_eq x name) refl h
-      where
-        same : (b : Bool) → bytes_eq x name ≡ b → (b || false) ≡ true → I x ≤ I name
-        same true e h = let n : x ≡ name = (bytes_decides x name).0 e in subst (λ (t : Text). I x ≤ I t) n (omega arith)
-        same false e h = (cc)
-    below_of (element.Loop' line kind e s body) h = let r = below_row body h in omega (arith, r, low)
+    below_of (element.Block' line name longname s body) h = under (I x) (tallest (fold_row ℕ (height_step I) body)) low (below_row body h)
+    below_of (element.IncludeBlock line name) h = same_height I x name (bytes_eq x name) refl h
+    below_of (element.Loop' line kind e s body) h = under (I x) (tallest (fold_row ℕ (height_step I) body)) low (below_row body h)
     below_of (element.LoopCtrl line kind) h = (cc)
-    below_of (element.Switch' line e s cases other) h = by (in_either x (case_names (fold_cases (List Text) includes_step cases)) (branch_names (fold_held (List Text) includes_step other)) h)
-      where
-        by : In x (case_names (fold_cases (List Text) includes_step cases)) ⊎ In x (branch_names (fold_held (List Text) includes_step other)) → I x ≤ max (case_heights (fold_cases ℕ (height_step I) cases)) (branch_height (fold_held ℕ (height_step I) other))
-        by (inl h) = let r = below_cases cases h in omega (arith, r)
-        by (inr h) = let r = below_held other h in omega (arith, r)
-    below_of (element.If' line e true_line s body other) h = by (in_either x (all_names (fold_row (List Text) includes_step body)) (branch_names (fold_held (List Text) includes_step other)) h)
-      where
-        by : In x (all_names (fold_row (List Text) includes_step body)) ⊎ In x (branch_names (fold_held (List Text) includes_step other)) → I x ≤ max (tallest (fold_row ℕ (height_step I) body)) (branch_height (fold_held ℕ (height_step I) other))
-        by (inl h) = let r = below_row body h in omega (arith, r)
-        by (inr h) = let r = below_held other h in omega (arith, r)
+    below_of (element.Switch' line e s cases other) h =
+        pick (in_either x (case_names (fold_cases (List Text) includes_step cases)) (branch_names (fold_held (List Text) includes_step other)) h)
+        (λ k. left_of (I x) (case_heights (fold_cases ℕ (height_step I) cases)) (branch_height (fold_held ℕ (height_step I) other)) (below_cases cases k))
+        (λ k. right_of (I x) (case_heights (fold_cases ℕ (height_step I) cases)) (branch_height (fold_held ℕ (height_step I) other)) (below_held other k))
+    below_of (element.If' line e true_line s body other) h =
+        pick (in_either x (all_names (fold_row (List Text) includes_step body)) (branch_names (fold_held (List Text) includes_step other)) h)
+        (λ k. left_of (I x) (tallest (fold_row ℕ (height_step I) body)) (branch_height (fold_held ℕ (height_step I) other)) (below_row body k))
+        (λ k. right_of (I x) (tallest (fold_row ℕ (height_step I) body)) (branch_height (fold_held ℕ (height_step I) other)) (below_held other k))
     below_of (element.Assign line name value) h = (cc)
     below_of (element.Update line table validity keep hit keys row) h = (cc)
     below_of (element.NextProto line proto) h = (cc)
 
     below_row : {m : _} (xs : Row_of-Element m) → In x (all_names (fold_row (List Text) includes_step xs)) → I x ≤ tallest (fold_row ℕ (height_step I) xs)
     below_row end_of-Element h = (cc)
-    below_row (more_of-Element e rest) h = by (in_either x (includes_of e) (all_names (fold_row (List Text) includes_step rest)) h)
-      where
-        by : In x (includes_of e) ⊎ In x (all_names (fold_row (List Text) includes_step rest)) → I x ≤ max (height_of I e) (tallest (fold_row ℕ (height_step I) rest))
-        by (inl h) = let r = below_of e h in omega (arith, r)
-        by (inr h) = let r = below_row rest h in omega (arith, r)
+    below_row (more_of-Element e rest) h =
+        pick (in_either x (includes_of e) (all_names (fold_row (List Text) includes_step rest)) h)
+        (λ k. left_of (I x) (height_of I e) (tallest (fold_row ℕ (height_step I) rest)) (below_of e k))
+        (λ k. right_of (I x) (height_of I e) (tallest (fold_row ℕ (height_step I) rest)) (below_row rest k))
 
     below_cases : {m : _} (xs : Row_of-Case m) → In x (case_names (fold_cases (List Text) includes_step xs)) → I x ≤ case_heights (fold_cases ℕ (height_step I) xs)
     below_cases end_of-Case h = (cc)
-    below_cases (more_of-Case line value maxvalue s body rest) h = by (in_either x (all_names (fold_row (List Text) includes_step body)) (case_names (fold_cases (List Text) includes_step rest)) h)
-      where
-        by : In x (all_names (fold_row (List Text) includes_step body)) ⊎ In x (case_names (fold_cases (List Text) includes_step rest)) → I x ≤ max (tallest (fold_row ℕ (height_step I) body)) (case_heights (fold_cases ℕ (height_step I) rest))
-        by (inl h) = let r = below_row body h in omega (arith, r)
-        by (inr h) = let r = below_cases rest h in omega (arith, r)
+    below_cases (more_of-Case line value maxvalue s body rest) h =
+        pick (in_either x (all_names (fold_row (List Text) includes_step body)) (case_names (fold_cases (List Text) includes_step rest)) h)
+        (λ k. left_of (I x) (tallest (fold_row ℕ (height_step I) body)) (case_heights (fold_cases ℕ (height_step I) rest)) (below_row body k))
+        (λ k. right_of (I x) (tallest (fold_row ℕ (height_step I) body)) (case_heights (fold_cases ℕ (height_step I) rest)) (below_cases rest k))
 
     below_held : (o : Held-Element-Switch-3) → In x (branch_names (fold_held (List Text) includes_step o)) → I x ≤ branch_height (fold_held ℕ (height_step I) o)
     below_held None' h = (cc)
@@ -82,11 +92,10 @@ module _ (I : Text → ℕ) (x : Text) (low : I x ≤ TOO_HIGH) where
 
   below_list : (xs : List Element) → In x (includes_in xs) → I x ≤ height_in I xs
   below_list [] h = (cc)
-  below_list (e ∷ xs) h = by (in_either x (includes_of e) (includes_in xs) h)
-    where
-      by : In x (includes_of e) ⊎ In x (includes_in xs) → I x ≤ max (height_of I e) (height_in I xs)
-      by (inl h) = let r = below_of e h in omega (arith, r)
-      by (inr h) = let r = below_list xs h in omega (arith, r)
+  below_list (e ∷ xs) h =
+      pick (in_either x (includes_of e) (includes_in xs) h)
+      (λ k. left_of (I x) (height_of I e) (height_in I xs) (below_of e k))
+      (λ k. right_of (I x) (height_of I e) (height_in I xs) (below_list xs k))
 
 -- ---- names that lead back
 
@@ -168,3 +177,10 @@ and_false false = refl
 
 pub not_deep : (p : Protocol) → protocol_within p ≡ true → protocol_46 p ≡ []
 not_deep p w = ap (at_line p.line) (ap (λ b. is_nothing (protocol_45 p) && not b) w ∙ and_false (is_nothing (protocol_45 p)))
+
+pub deep_here : (p : Protocol) → protocol_within p ≡ false → protocol_46 p ≡ at_line p.line (not (is_some (first 45 (protocol_45 p))))
+deep_here p w = deep_is p ∙ ap (at_line p.line) (ap (λ b. not (is_some (first 45 (protocol_45 p))) && not b) w ∙ and_true (not (is_some (first 45 (protocol_45 p)))))
+  where
+    and_true : (a : Bool) → (a && true) ≡ a
+    and_true true = refl
+    and_true false = refl

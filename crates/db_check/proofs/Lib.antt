@@ -9,3 +9,4 @@ pub mod Including
 pub mod Whole
 pub mod Included
 pub mod Declarations
+pub mod Acyclic

@@ -10,9 +10,9 @@ use expr_type::Scope;
 
 /// What an element of a protocol may name.
 #[derive(Clone, Copy)]
-pub struct Around<'a> {
+pub struct Around<'a, 'f> {
     /// What its expressions may name.
-    pub scope: Scope<'a>,
+    pub scope: Scope<'a, 'f>,
     /// The places of the show templates.
     pub shows: &'a Places,
     /// The number of the protocol.
@@ -20,7 +20,7 @@ pub struct Around<'a> {
     pub protocol: &'a Protocol,
 }
 
-impl Around<'_> {
+impl Around<'_, '_> {
     pub fn has_template(&self, name: &[u8]) -> bool
         requires { IsAround self.now }
         ensures { result ≡ is_template self.now.scope.database.now self.now.scope.fields.now (block_names self.now.protocol.now) name.now }

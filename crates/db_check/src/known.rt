@@ -111,13 +111,13 @@ impl<'a> Known<'a> {
 }
 
 /// The same, where the names of the fields are known.
-fn in_scope<'x>(
-    known: &Known<'x>,
+fn in_scope<'a, 'f>(
+    known: &Known<'a>,
     kind: Kind,
     number: usize,
-    protocol: &'x Protocol,
-    fields: &'x [Name],
-    places: &'x Places,
+    protocol: &'a Protocol,
+    fields: &'f [Name],
+    places: &'f Places,
 ) -> Option<Fault>
     requires known { IsKnown known.now }
     requires there { slice_get known.now.database.now.protocols number ≡ Some protocol.now }

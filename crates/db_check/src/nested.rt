@@ -12,6 +12,7 @@ use crate::first::at_line;
 use crate::heights::{heights_of, is_within};
 use crate::home::Home;
 use crate::known::Known;
+use db_laws::cycles_found;
 use db_model::{Fault, NoMemory, Protocol};
 use std::alloc::Global;
 
@@ -24,15 +25,22 @@ pub struct Nested {
     pub depths: Option<Fault>,
 }
 
-#[tactic(auto, using(crate::proofs::Nesting::deep_is))]
+/// No block of a protocol whose heights are low includes itself, so only others are searched.
+#[tactic(auto, using(crate::proofs::Acyclic::deep_here))]
 fn of_protocol(alloc: Global, home: &Home) -> Result<Nested, NoMemory>
     requires { IsHome home.now }
     ensures { IfOk result (λ n. (n.cycles ≡ first 45 (protocol_45 home.now.protocol.now)) × (n.depths ≡ first 46 (protocol_46 home.now.protocol.now))) }
 {
+    cycles_found();
     let heights = heights_of(alloc, home)?;
+    if is_within(heights.as_slice(), home) {
+        return Ok(Nested {
+            cycles: None,
+            depths: None,
+        });
+    }
     let cycles = cycles(alloc, home)?;
-    let too_deep = cycles.is_none() && !is_within(heights.as_slice(), home);
-    let depths = at_line(home.protocol.line, 46, too_deep);
+    let depths = at_line(home.protocol.line, 46, cycles.is_none());
     Ok(Nested { cycles, depths })
 }
 

@@ -8,17 +8,17 @@ use db_model::{Database, Name, NameIndex, Places, Special};
 /// What an expression may name: what a database declares, and the fields of one protocol. Each name is looked up
 /// without a walk over declarations or elements.
 #[derive(Clone, Copy)]
-pub struct Scope<'a> {
+pub struct Scope<'a, 'f> {
     pub database: &'a Database,
     /// The index of the database.
     pub names: &'a NameIndex,
     /// The names of the protocol's fields. Outside of all protocols there are none.
-    pub fields: &'a [Name],
+    pub fields: &'f [Name],
     /// Their places.
-    pub places: &'a Places,
+    pub places: &'f Places,
 }
 
-impl Scope<'_> {
+impl Scope<'_, '_> {
     /// Whether a protocol of this name is declared.
     pub fn has_protocol(&self, name: &[u8]) -> bool
         requires { IsScope self.now }
