@@ -1,1 +1,13 @@
 pub mod Answer
+pub mod First
+pub mod Layer
+pub mod Own
+pub mod Around
+pub mod Heights
+pub mod Rows
+pub mod Repeats
+pub mod Known
+pub mod Entries
+pub mod Home
+pub mod Graph
+pub mod Uses

@@ -3,17 +3,28 @@
 //! one of the least line, and there of the least code.
 #![tactic(auto)]
 
-ghost use Rattle.std.specs.Prelude.{◌≡◌, true};
-ghost use Rattle.db_model.specs.Shape.{is_shaped};
-ghost use Rattle.db_check.specs.Answer.{Judges};
+mod around;
 
-use db_model::{CheckedDb, Database, DbFail};
-use std::alloc::Global;
+mod cycles;
+mod field_names;
+mod first;
+mod heights;
+mod home;
+mod judge;
+mod kind;
+mod known;
+mod limits;
+mod located;
+mod nested;
+mod numbers;
+mod objection;
+mod own;
+mod parts;
+mod repeats;
+mod rows;
+mod search;
+mod tables;
+mod uses;
+mod walk;
 
-/// The same database, checked: it takes the names that it needs later with it. A fault has a code from 40 to 47.
-pub fn check(alloc: Global, db: Database) -> Result<CheckedDb, DbFail>
-    requires { is_shaped db ≡ true }
-    ensures { Judges db result }
-{
-    Err(DbFail::NoMemory)
-}
+pub use judge::check;

@@ -1,10 +1,9 @@
--- The fields that an expression may name.
-use Rattle.std.specs.Prelude.{ℕ, List, [], Option, Some, None}
-use Rattle.db_model.specs.declared.database.Database.{Database}
-use Rattle.db_model.specs.Names.{Text}
-use Rattle.db_model.specs.Numbering.{names_of_protocol}
+-- What an expression may name, known by name.
+use Rattle.std.specs.Prelude.{List}
+use Rattle.db_model.specs.NameIndex.{IsIndex, IsPlaces}
+use Rattle.expr_type.specs.declared.scope.Scope.{Scope}
 
--- those of the protocol of this number; outside of all protocols there are none
-abbrev pub fields_of : Database → Option ℕ → List Text
-fields_of db None = []
-fields_of db (Some q) = names_of_protocol db q
+-- the index is the database's, and the places of the fields are theirs
+pub record IsScope (s : Scope) : Type 0 where
+  pub index_is : IsIndex s.database.now s.names.now
+  pub places_are : IsPlaces s.fields.now s.places.now

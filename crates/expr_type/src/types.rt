@@ -1,73 +1,76 @@
 ghost use Rattle.std.specs.Prelude.{◌≡◌, map, slice_get};
 ghost use Rattle.std.specs.List.{list_all};
-ghost use Rattle.std.specs.Option.{option_copied};
 ghost use Rattle.db_model.specs.Forms.{is_between};
-ghost use Rattle.db_model.specs.Names.{table_at, column_at};
+ghost use Rattle.db_model.specs.Names.{table_at, column_at, variable_at};
 ghost use Rattle.db_model.specs.declared.value.Ty.TheVariants.{Buf};
 ghost use Rattle.db_model.specs.Special.{special};
-ghost use Rattle.db_model.specs.Typing.{ty_of, is_of, typed_if, operator_ty, variable_ty, column_ty, columns_in, special_ty};
+ghost use Rattle.db_model.specs.Typing.{ty_of, is_of, typed_if, operator_ty, variable_ty, column_ty, columns_in, special_ty, declared_ty};
+ghost use Rattle.expr_type.specs.Scope.{IsScope};
 
+use crate::Scope;
 use crate::logic::both;
-use db_model::{Database, Expr, MOST_NUMBER_BYTES, Name, Operator, Special, Ty};
+use db_model::{Expr, MOST_NUMBER_BYTES, Name, Operator, Special, Ty};
 
 /// The type of an expression whose names are declared. None: the types of its parts don't fit.
 #[cycle(types)]
-pub fn type_by(e: &Expr, db: &Database) -> Option<Ty>
-    ensures { result ≡ ty_of db.now e.now }
+pub fn type_by(e: &Expr, scope: &Scope) -> Option<Ty>
+    requires { IsScope scope.now }
+    ensures { result ≡ ty_of scope.now.database.now e.now }
 {
     match e {
         Expr::Number(_) => Some(Ty::Num),
         Expr::Text(_) => Some(Ty::Buf),
         Expr::Protocol(_) => Some(Ty::Proto),
         Expr::Field(_) => Some(Ty::Buf),
-        Expr::Variable(name) => of_variable(name, db),
-        Expr::Column { table, column } => of_column(table, column, db),
+        Expr::Variable(name) => of_variable(name, scope),
+        Expr::Column { table, column } => of_column(table, column, scope),
         Expr::IsPresent(_) => Some(Ty::Num),
-        Expr::Not(a) => typed(is(Ty::Num, type_by(a.get(), db)), Ty::Num),
+        Expr::Not(a) => typed(is(Ty::Num, type_by(a.get(), scope)), Ty::Num),
         Expr::And(a, b) => typed(
             both(
-                is(Ty::Num, type_by(a.get(), db)),
-                is(Ty::Num, type_by(b.get(), db)),
+                is(Ty::Num, type_by(a.get(), scope)),
+                is(Ty::Num, type_by(b.get(), scope)),
             ),
             Ty::Num,
         ),
         Expr::Or(a, b) => typed(
             both(
-                is(Ty::Num, type_by(a.get(), db)),
-                is(Ty::Num, type_by(b.get(), db)),
+                is(Ty::Num, type_by(a.get(), scope)),
+                is(Ty::Num, type_by(b.get(), scope)),
             ),
             Ty::Num,
         ),
         Expr::Binary(operator, a, b) => {
-            of_operator(*operator, type_by(a.get(), db), type_by(b.get(), db))
+            of_operator(*operator, type_by(a.get(), scope), type_by(b.get(), scope))
         }
         Expr::Slice { base, from, count } => typed(
             both(
-                is(Ty::Buf, type_by(base.get(), db)),
+                is(Ty::Buf, type_by(base.get(), scope)),
                 both(
-                    is(Ty::Num, type_by(from.get(), db)),
-                    is(Ty::Num, type_by(count.get(), db)),
+                    is(Ty::Num, type_by(from.get(), scope)),
+                    is(Ty::Num, type_by(count.get(), scope)),
                 ),
             ),
             Ty::Buf,
         ),
-        Expr::ToNumber(a) => typed(is(Ty::Buf, type_by(a.get(), db)), Ty::Num),
-        Expr::LengthOf(a) => typed(is(Ty::Buf, type_by(a.get(), db)), Ty::Num),
+        Expr::ToNumber(a) => typed(is(Ty::Buf, type_by(a.get(), scope)), Ty::Num),
+        Expr::LengthOf(a) => typed(is(Ty::Buf, type_by(a.get(), scope)), Ty::Num),
         Expr::ToBytes { value, size } => typed(
-            both(is(Ty::Num, type_by(value.get(), db)), is_size(*size)),
+            both(is(Ty::Num, type_by(value.get(), scope)), is_size(*size)),
             Ty::Buf,
         ),
-        Expr::HasText { within, .. } => typed(is(Ty::Buf, type_by(within.get(), db)), Ty::Num),
-        Expr::LookUp { keys, .. } => typed(all_bytes(keys.as_slice(), db), Ty::Num),
+        Expr::HasText { within, .. } => typed(is(Ty::Buf, type_by(within.get(), scope)), Ty::Num),
+        Expr::LookUp { keys, .. } => typed(all_bytes(keys.as_slice(), scope), Ty::Num),
     }
 }
 
 #[cycle(types)]
-fn all_bytes(keys: &[Expr], db: &Database) -> bool
-    ensures { result ≡ list_all (is_of Buf) (map (ty_of db.now) keys.now) }
+fn all_bytes(keys: &[Expr], scope: &Scope) -> bool
+    requires { IsScope scope.now }
+    ensures { result ≡ list_all (is_of Buf) (map (ty_of scope.now.database.now) keys.now) }
 {
     for key in keys {
-        if !is(Ty::Buf, type_by(key, db)) {
+        if !is(Ty::Buf, type_by(key, scope)) {
             return false;
         }
     }
@@ -112,15 +115,25 @@ fn of_operator(operator: Operator, a: Option<Ty>, b: Option<Ty>) -> Option<Ty>
     }
 }
 
-fn of_variable(name: &Name, db: &Database) -> Option<Ty>
-    ensures { result ≡ variable_ty db.now (special name.now) name.now }
+fn of_variable(name: &Name, scope: &Scope) -> Option<Ty>
+    requires { IsScope scope.now }
+    ensures { result ≡ variable_ty scope.now.database.now (special name.now) name.now }
 {
     match Special::of(name.as_slice()) {
         Some(special) => Some(of_special(special)),
-        None => match db.variables.get(db.variable_at(name.as_slice())) {
-            Some(declared) => Some(declared.ty),
-            None => None,
-        },
+        None => declared_type(name, scope),
+    }
+}
+
+/// The type of a declared variable.
+pub fn declared_type(name: &Name, scope: &Scope) -> Option<Ty>
+    requires { IsScope scope.now }
+    ensures { result ≡ declared_ty (slice_get scope.now.database.now.variables (variable_at scope.now.database.now name.now)) }
+{
+    let at = scope.names.variable_at(scope.database, name.as_slice());
+    match scope.database.variables.get(at) {
+        Some(declared) => Some(declared.ty),
+        None => None,
     }
 }
 
@@ -134,10 +147,13 @@ fn of_special(special: Special) -> Ty
     }
 }
 
-fn of_column(table: &Name, column: &Name, db: &Database) -> Option<Ty>
-    ensures { result ≡ column_ty (slice_get (columns_in (slice_get db.now.tables (table_at db.now table.now))) (column_at (slice_get db.now.tables (table_at db.now table.now)) column.now)) }
+fn of_column(table: &Name, column: &Name, scope: &Scope) -> Option<Ty>
+    requires { IsScope scope.now }
+    ensures { result ≡ column_ty (slice_get (columns_in (slice_get scope.now.database.now.tables (table_at scope.now.database.now table.now))) (column_at (slice_get scope.now.database.now.tables (table_at scope.now.database.now table.now)) column.now)) }
 {
-    let table = db.tables.get(db.table_at(table.as_slice()))?;
-    let column = table.columns.get(table.column_at(column.as_slice()))?;
+    let at = scope.names.table_at(scope.database, table.as_slice());
+    let declared = scope.database.tables.get(at)?;
+    let place = scope.names.column_at(scope.database, at, column.as_slice());
+    let column = declared.columns.get(place)?;
     Some(column.ty)
 }

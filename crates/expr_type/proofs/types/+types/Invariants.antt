@@ -5,4 +5,4 @@ use Rattle.db_model.specs.Typing.{ty_of, is_of}
 use Rattle.expr_type.proofs.types.+types.Given as goal
 
 abbrev pub invariant-all_bytes-loop-key : goal.invariant-all_bytes-loop-key
-invariant-all_bytes-loop-key l = list_all (is_of Buf) (map (ty_of l.db) (drop l.key-index l.keys)) ≡ list_all (is_of Buf) (map (ty_of l.db) l.keys)
+invariant-all_bytes-loop-key l = list_all (is_of Buf) (map (ty_of l.scope.database.now) (drop l.key-index l.keys)) ≡ list_all (is_of Buf) (map (ty_of l.scope.database.now) l.keys)

@@ -1,0 +1,12 @@
+pub mod FirstFault
+pub mod Layers
+pub mod FourKinds
+pub mod InRows
+pub mod Again
+pub mod Nesting
+pub mod Searched
+pub mod Including
+pub mod Whole
+pub mod Included
+pub mod Declarations
+pub mod Acyclic

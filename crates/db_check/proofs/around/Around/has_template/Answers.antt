@@ -1,0 +1,13 @@
+use Rattle.std.proofs.Common.{◌∙◌, ap, length, List}
+use Rattle.std.specs.Prelude.{nat_lt}
+use Rattle.db_model.specs.declared.database.ShowTemplate.{ShowTemplate}
+use Rattle.db_model.proofs.Placed.{place_known}
+use Rattle.expr_type.proofs.Declared.{declared_among}
+use Rattle.db_check.proofs.around.Around.has_template.Goals as goal
+
+pub returns : goal.returns
+returns c =
+    let name = λ (d : ShowTemplate). d.name in
+    let xs = c.args.self.now.scope.database.now.show_templates in
+    ap (λ (l : List ShowTemplate). nat_lt c.place_of.result (length l)) c.as_slice-count.ensures
+    ∙ declared_among name xs c.args.name.now c.place_of.result (place_known name xs c.as_slice-count.result.now c.args.self.now.shows.now c.args.name.now c.place_of.result c.requires.shows_are c.as_slice-count.ensures c.place_of.ensures)

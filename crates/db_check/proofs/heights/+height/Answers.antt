@@ -1,0 +1,30 @@
+use Rattle.std.proofs.Common.{◌≡◌, ◌∙◌, ℕ, max, ap, sym}
+use Rattle.db_model.specs.NameFaults.{block_names}
+use Rattle.db_model.specs.Names.{Text}
+use Rattle.db_check.specs.Heights.{raised, height_at, height_of, height_in, height_of_cases, height_of_other}
+use Rattle.db_check.proofs.Nesting.{height_block, height_loop, height_switch, height_if}
+use Rattle.db_check.proofs.heights.+height.Goals as goal
+
+pub of_element-returns-in-Block : goal.of_element-returns-in-Block
+of_element-returns-in-Block t c =
+    let I = height_at (block_names c.args.home.now.protocol.now) c.args.heights.now in
+    c.raised.ensures ∙ (ap raised (c.of_list.ensures ∙ ap (height_in I) c.as_slice.ensures)
+    ∙ (sym (height_block I c.in-Block.line c.in-Block.name c.in-Block.longname c.in-Block.body) ∙ ap (height_of I) (sym c.in-Block.is)))
+
+pub of_element-returns-in-Loop : goal.of_element-returns-in-Loop
+of_element-returns-in-Loop t c =
+    let I = height_at (block_names c.args.home.now.protocol.now) c.args.heights.now in
+    c.raised-in-Loop.ensures ∙ (ap raised (c.of_list-in-Loop.ensures ∙ ap (height_in I) c.as_slice-in-Loop.ensures)
+    ∙ (sym (height_loop I c.in-Loop.line c.in-Loop.kind c.in-Loop.expr c.in-Loop.body) ∙ ap (height_of I) (sym c.in-Loop.is)))
+
+pub of_element-returns-in-Switch : goal.of_element-returns-in-Switch
+of_element-returns-in-Switch t c =
+    let I = height_at (block_names c.args.home.now.protocol.now) c.args.heights.now in
+    c.taller.ensures ∙ ((λ i. max ((c.of_cases.ensures ∙ ap (height_of_cases I) c.as_slice-in-Switch.ensures) i) (c.of_branch.ensures i))
+    ∙ (sym (height_switch I c.in-Switch.line c.in-Switch.expr c.in-Switch.cases c.in-Switch.otherwise) ∙ ap (height_of I) (sym c.in-Switch.is)))
+
+pub of_element-returns-in-If : goal.of_element-returns-in-If
+of_element-returns-in-If t c =
+    let I = height_at (block_names c.args.home.now.protocol.now) c.args.heights.now in
+    c.taller-in-If.ensures ∙ ((λ i. max ((c.of_list-in-If.ensures ∙ ap (height_in I) c.as_slice-in-If.ensures) i) (c.of_branch-in-If.ensures i))
+    ∙ (sym (height_if I c.in-If.line c.in-If.expr c.in-If.true_line c.in-If.if_true c.in-If.if_false) ∙ ap (height_of I) (sym c.in-If.is)))

@@ -1,0 +1,137 @@
+//! The named blocks of a protocol by their numbers, and those that include themselves.
+
+ghost use Rattle.std.specs.Prelude.{◌≡◌, ◌++◌, OnOk, IfOk};
+ghost use Rattle.db_model.specs.BlockFaults.{includes_of, includes_in, protocol_45};
+ghost use Rattle.db_model.specs.NameFaults.{block_names};
+ghost use Rattle.db_check.specs.First.{first};
+ghost use Rattle.db_check.specs.Graph.{numbers, includes_of_cases, includes_of_other, graph_of, leads_here, cycles_from};
+ghost use Rattle.db_check.specs.Home.{IsHome};
+
+use crate::first::at_line;
+use crate::home::Home;
+use crate::parts;
+use crate::search::{Graph, leads_back};
+use db_laws::cycles_found;
+use db_model::{Branch, Case, Element, Fault, Name, NamedBlock, NoMemory, Sequence};
+use std::alloc::Global;
+
+/// Puts the numbers of the included blocks behind those that are there. The same for all functions below.
+#[cycle(includes)]
+fn add_list(elements: &[Element], home: &Home, included: &mut Sequence<usize>) -> Result<(), NoMemory>
+    requires { IsHome home.now }
+    ensures { OnOk result (included.new ≡ included.old ++ numbers (block_names home.now.protocol.now) (includes_in elements.now)) }
+{
+    for element in elements {
+        add_element(element, home, included)?;
+    }
+    Ok(())
+}
+
+#[cycle(includes)]
+fn add_element(element: &Element, home: &Home, included: &mut Sequence<usize>) -> Result<(), NoMemory>
+    requires { IsHome home.now }
+    ensures { OnOk result (included.new ≡ included.old ++ numbers (block_names home.now.protocol.now) (includes_of element.now)) }
+{
+    match element {
+        Element::Field { .. } => Ok(()),
+        Element::Block { body, .. } => add_list(body.as_slice(), home, included),
+        Element::IncludeBlock { name, .. } => included.push(home.block_at(name.as_slice())),
+        Element::Loop { body, .. } => add_list(body.as_slice(), home, included),
+        Element::LoopCtrl { .. } => Ok(()),
+        Element::Switch {
+            cases, otherwise, ..
+        } => {
+            add_cases(cases.as_slice(), home, included)?;
+            add_branch(otherwise, home, included)
+        }
+        Element::If {
+            if_true, if_false, ..
+        } => {
+            add_list(if_true.as_slice(), home, included)?;
+            add_branch(if_false, home, included)
+        }
+        Element::Assign { .. } => Ok(()),
+        Element::Update { .. } => Ok(()),
+        Element::NextProto { .. } => Ok(()),
+    }
+}
+
+#[cycle(includes)]
+fn add_cases(cases: &[Case], home: &Home, included: &mut Sequence<usize>) -> Result<(), NoMemory>
+    requires { IsHome home.now }
+    ensures { OnOk result (included.new ≡ included.old ++ numbers (block_names home.now.protocol.now) (includes_of_cases cases.now)) }
+{
+    for case in cases {
+        add_list(case.body.as_slice(), home, included)?;
+    }
+    Ok(())
+}
+
+#[cycle(includes)]
+fn add_branch(branch: &Option<Branch>, home: &Home, included: &mut Sequence<usize>) -> Result<(), NoMemory>
+    requires { IsHome home.now }
+    ensures { OnOk result (included.new ≡ included.old ++ numbers (block_names home.now.protocol.now) (includes_of_other branch.now)) }
+{
+    match branch {
+        Some(branch) => add_list(branch.body.as_slice(), home, included),
+        None => Ok(()),
+    }
+}
+
+fn included_in(alloc: Global, block: &NamedBlock, home: &Home) -> Result<Sequence<usize>, NoMemory>
+    requires { IsHome home.now }
+    ensures { IfOk result (λ included. included ≡ numbers (block_names home.now.protocol.now) (includes_in block.now.body)) }
+{
+    let mut included = Sequence::new(alloc);
+    add_list(block.body.as_slice(), home, &mut included)?;
+    Ok(included)
+}
+
+fn graph(alloc: Global, home: &Home) -> Result<Graph, NoMemory>
+    requires { IsHome home.now }
+    ensures { IfOk result (λ graph. graph ≡ graph_of home.now.protocol.now) }
+{
+    let mut graph = Sequence::new(alloc);
+    for block in parts::named_blocks(home.protocol) {
+        graph.push(included_in(alloc, block, home)?)?;
+    }
+    Ok(graph)
+}
+
+/// Whether the block of this number is the first of its name and includes itself.
+fn leads_here(alloc: Global, graph: &Graph, number: usize, name: &Name, home: &Home) -> Result<bool, NoMemory>
+    requires { IsHome home.now }
+    ensures { IfOk result (λ r. r ≡ leads_here graph.now (block_names home.now.protocol.now) number name.now) }
+{
+    if home.block_at(name.as_slice()) < number {
+        return Ok(false);
+    }
+    leads_back(alloc, graph, number)
+}
+
+fn in_graph(
+    alloc: Global,
+    graph: &Graph,
+    blocks: &[NamedBlock],
+    home: &Home,
+) -> Result<Option<Fault>, NoMemory>
+    requires { IsHome home.now }
+    ensures { IfOk result (λ f. f ≡ first 45 (cycles_from graph.now (block_names home.now.protocol.now) 0 blocks.now)) }
+{
+    let mut found = None;
+    for (number, block) in blocks.iter().enumerate() {
+        let wrong = leads_here(alloc, graph, number, &block.name, home)?;
+        found = Fault::earlier(found, at_line(block.line, 45, wrong));
+    }
+    Ok(found)
+}
+
+/// The least fault of a named block that includes itself, at once or through others.
+pub fn cycles(alloc: Global, home: &Home) -> Result<Option<Fault>, NoMemory>
+    requires { IsHome home.now }
+    ensures { IfOk result (λ f. f ≡ first 45 (protocol_45 home.now.protocol.now)) }
+{
+    cycles_found();
+    let graph = graph(alloc, home)?;
+    in_graph(alloc, &graph, parts::named_blocks(home.protocol), home)
+}

@@ -1,0 +1,33 @@
+ghost use Rattle.std.specs.Prelude.{◌≡◌, true, None, OnOk, IfErr};
+ghost use Rattle.db_model.specs.NameIndex.{IsIndex};
+ghost use Rattle.db_model.specs.Objection;
+ghost use Rattle.db_model.specs.Shape.{is_shaped};
+ghost use Rattle.db_check.specs.Answer.{Judges, Objects};
+
+use crate::objection::objection;
+use db_model::{CheckedDb, Database, DbFail, Fault, NameIndex};
+use std::alloc::Global;
+
+/// Whether no fault stands in a database.
+fn judged(alloc: Global, db: &Database, names: &NameIndex) -> Result<(), DbFail>
+    requires { IsIndex db.now names.now }
+    ensures accepted { OnOk result (Objection.objection db.now ≡ None) }
+    ensures refused { IfErr result (λ e. Objects db.now e) }
+{
+    match objection(alloc, db, names)? {
+        Some(Fault { line, code }) => Err(DbFail::Fault { line, code }),
+        None => Ok(()),
+    }
+}
+
+/// The same database, checked: it takes the names that it needs later with it. A fault has a code from 40 to 47.
+pub fn check(alloc: Global, db: Database) -> Result<CheckedDb, DbFail>
+    requires { is_shaped db ≡ true }
+    ensures { Judges db result }
+{
+    let names = NameIndex::of(alloc, &db)?;
+    match judged(alloc, &db, &names) {
+        Ok(()) => Ok(CheckedDb::seal(db, names)),
+        Err(fail) => Err(fail),
+    }
+}

@@ -1,0 +1,318 @@
+//! The faults of an element itself: what fails of its expressions, its numbers and its names.
+
+ghost use Rattle.std.specs.Prelude.{◌≡◌, ◌++◌, Some, option_map, slice_get};
+ghost use Rattle.db_model.specs.Lines.{over};
+ghost use Rattle.db_model.specs.Lines;
+ghost use Rattle.db_model.specs.NameFaults.{block_names};
+ghost use Rattle.db_model.specs.TypeFaults;
+ghost use Rattle.db_model.specs.TypeFaults.{column_wants};
+ghost use Rattle.db_model.specs.Typing.{is_among};
+ghost use Rattle.db_model.specs.Special.{special_names};
+ghost use Rattle.db_model.specs.declared.database.ColumnDecl.{ColumnDecl};
+ghost use Rattle.db_model.specs.declared.element.Case.{Case};
+ghost use Rattle.db_model.specs.declared.value.Ty.TheVariants.{Num};
+ghost use Rattle.db_check.specs.Around.{IsAround, own_in};
+ghost use Rattle.db_check.specs.First.{first};
+ghost use Rattle.db_check.specs.Layer.{own_at};
+ghost use Rattle.db_check.specs.Own;
+ghost use Rattle.db_check.specs.Own.{code};
+
+use crate::around::Around;
+use crate::first::at_line;
+use crate::kind::Kind;
+use crate::limits::{form_is_outside, is_zero};
+use crate::tables::{columns_of, update_misses};
+use db_model::{
+    Case, ColumnDecl, Element, Expr, Fault, FieldForm, Name, Special, Ty, TypeFault, UpdateKey,
+    UpdateValue, Validity,
+};
+use expr_type::{declared_type, has_undeclared, has_wrong_arity, type_of};
+
+fn is_other(wanted: Option<Ty>, ty: Ty) -> bool
+    ensures { result ≡ TypeFaults.is_other wanted ty }
+{
+    match wanted {
+        None => false,
+        Some(wanted) => wanted != ty,
+    }
+}
+
+/// Whether a type isn't the wanted one. A name that isn't declared and a wrong number of keys are other faults.
+fn isnt_wanted(wanted: Option<Ty>, ty: Result<Ty, TypeFault>) -> bool
+    ensures { result ≡ TypeFaults.isnt_wanted wanted ty }
+{
+    match ty {
+        Ok(ty) => is_other(wanted, ty),
+        Err(TypeFault::Undeclared) => false,
+        Err(TypeFault::Mistyped) => true,
+        Err(TypeFault::Arity) => false,
+    }
+}
+
+/// Whether an expression has a fault of this kind, where its type has to be the wanted one.
+fn fails(kind: Kind, wanted: Option<Ty>, e: &Expr, around: &Around) -> bool
+    requires { IsAround around.now }
+    ensures { result ≡ Own.fails around.now.scope.database.now around.now.scope.fields.now (block_names around.now.protocol.now) kind wanted e.now }
+{
+    match kind {
+        Kind::Names => has_undeclared(e, &around.scope),
+        Kind::Types => isnt_wanted(wanted, type_of(e, &around.scope)),
+        Kind::Numbers => false,
+        Kind::Tables => has_wrong_arity(e, &around.scope),
+    }
+}
+
+fn form_fails(kind: Kind, form: &FieldForm, around: &Around) -> bool
+    requires { IsAround around.now }
+    ensures { result ≡ Own.form_fails around.now.scope.database.now around.now.scope.fields.now (block_names around.now.protocol.now) kind form.now }
+{
+    match form {
+        FieldForm::Fixed { .. } => false,
+        FieldForm::Bit { .. } => false,
+        FieldForm::Variable { expr } => fails(kind, Some(Ty::Num), expr, around),
+        FieldForm::TokenEnded { .. } => false,
+        FieldForm::Line => false,
+        FieldForm::Padding { .. } => false,
+    }
+}
+
+fn lacks_template(show: &Option<Name>, around: &Around) -> bool
+    requires { IsAround around.now }
+    ensures { result ≡ Own.lacks_template around.now.scope.database.now around.now.scope.fields.now (block_names around.now.protocol.now) show.now }
+{
+    match show {
+        None => false,
+        Some(name) => !around.has_template(name.as_slice()),
+    }
+}
+
+fn field_fails(kind: Kind, form: &FieldForm, show: &Option<Name>, around: &Around) -> bool
+    requires { IsAround around.now }
+    ensures { result ≡ Own.field_fails around.now.scope.database.now around.now.scope.fields.now (block_names around.now.protocol.now) kind form.now show.now }
+{
+    match kind {
+        Kind::Names => form_fails(kind, form, around) || lacks_template(show, around),
+        Kind::Types => form_fails(kind, form, around),
+        Kind::Numbers => form_is_outside(form),
+        Kind::Tables => form_fails(kind, form, around),
+    }
+}
+
+fn include_fails(kind: Kind, name: &Name, around: &Around) -> bool
+    requires { IsAround around.now }
+    ensures { result ≡ Own.include_fails around.now.scope.database.now around.now.scope.fields.now (block_names around.now.protocol.now) kind name.now }
+{
+    match kind {
+        Kind::Names => !around.has_block(name.as_slice()),
+        Kind::Types => false,
+        Kind::Numbers => false,
+        Kind::Tables => false,
+    }
+}
+
+fn is_special(name: &[u8]) -> bool
+    ensures { result ≡ is_among name.now special_names }
+{
+    Special::of(name).is_some()
+}
+
+fn assign_fails(kind: Kind, name: &Name, e: &Expr, around: &Around) -> bool
+    requires { IsAround around.now }
+    ensures { result ≡ Own.assign_fails around.now.scope.database.now around.now.scope.fields.now (block_names around.now.protocol.now) kind name.now e.now }
+{
+    let name_text = name.as_slice();
+    match kind {
+        Kind::Names => {
+            fails(kind, Some(Ty::Num), e, around)
+                || is_special(name_text)
+                || !around.scope.declares_variable(name_text)
+        }
+        Kind::Types => fails(kind, declared_type(name, &around.scope), e, around),
+        Kind::Numbers => false,
+        Kind::Tables => fails(kind, Some(Ty::Num), e, around),
+    }
+}
+
+/// How an update treats the entries that it adds.
+#[derive(Clone, Copy)]
+struct Times {
+    validity: Validity,
+    keep: Option<u32>,
+    hit: Option<u32>,
+}
+
+fn update_fails(
+    kind: Kind,
+    table: &Name,
+    times: Times,
+    keys: &[UpdateKey],
+    row: &[UpdateValue],
+    around: &Around,
+) -> bool
+    requires { IsAround around.now }
+    ensures { result ≡ Own.update_fails around.now.scope.database.now around.now.scope.fields.now (block_names around.now.protocol.now) kind table.now times.validity times.keep times.hit keys.now row.now }
+{
+    match kind {
+        Kind::Names => !around.scope.has_table(table.as_slice()),
+        Kind::Types => false,
+        Kind::Numbers => is_zero(times.keep) || is_zero(times.hit),
+        Kind::Tables => {
+            let scope = &around.scope;
+            let at = scope.names.table_at(scope.database, table.as_slice());
+            let declared = scope.database.tables.get(at);
+            update_misses(declared, times.validity, times.keep, times.hit, keys, row)
+        }
+    }
+}
+
+fn of_keys(kind: Kind, keys: &[UpdateKey], around: &Around) -> Option<Fault>
+    requires { IsAround around.now }
+    ensures { result ≡ first (code kind) (over (Own.key_lines around.now.scope.database.now around.now.scope.fields.now (block_names around.now.protocol.now) kind) keys.now) }
+{
+    let mut found = None;
+    for key in keys {
+        let wrong = fails(kind, Some(Ty::Buf), &key.value, around);
+        found = Fault::earlier(found, at_line(key.line, kind.code(), wrong));
+    }
+    found
+}
+
+/// The type of the column at a place.
+fn wanted_at(columns: &[ColumnDecl], place: usize) -> Option<Ty>
+    ensures { result ≡ option_map (λ (c : ColumnDecl). c.ty) (slice_get columns.now place) }
+{
+    match columns.get(place) {
+        Some(column) => Some(column.ty),
+        None => None,
+    }
+}
+
+/// The values of a row, each of which has to have the type of its column.
+fn of_row(kind: Kind, columns: &[ColumnDecl], row: &[UpdateValue], around: &Around) -> Option<Fault>
+    requires { IsAround around.now }
+    ensures { result ≡ first (code kind) (over (Own.value_lines around.now.scope.database.now around.now.scope.fields.now (block_names around.now.protocol.now) kind) (column_wants columns.now row.now)) }
+{
+    let mut found = None;
+    for (i, value) in row.iter().enumerate() {
+        let wrong = fails(kind, wanted_at(columns, i), &value.value, around);
+        found = Fault::earlier(found, at_line(value.line, kind.code(), wrong));
+    }
+    found
+}
+
+fn case_fails(kind: Kind, case: &Case) -> bool
+    ensures { result ≡ Own.case_fails kind case.now.value case.now.maxvalue }
+{
+    match kind {
+        Kind::Names => false,
+        Kind::Types => false,
+        Kind::Numbers => case.maxvalue < case.value,
+        Kind::Tables => false,
+    }
+}
+
+fn of_cases(kind: Kind, cases: &[Case]) -> Option<Fault>
+    ensures { result ≡ first (code kind) (over (λ (c : Case). Lines.at_line c.line (Own.case_fails kind c.value c.maxvalue)) cases.now) }
+{
+    let mut found = None;
+    for case in cases {
+        let wrong = case_fails(kind, case);
+        found = Fault::earlier(found, at_line(case.line, kind.code(), wrong));
+    }
+    found
+}
+
+#[tactic(auto, using(crate::proofs::FirstFault::first_append))]
+fn of_parts(
+    kind: Kind,
+    table: &Name,
+    keys: &[UpdateKey],
+    row: &[UpdateValue],
+    around: &Around,
+) -> Option<Fault>
+    requires { IsAround around.now }
+    ensures { result ≡ first (code kind) (Own.update_lines around.now.scope.database.now around.now.scope.fields.now (block_names around.now.protocol.now) kind table.now keys.now row.now) }
+{
+    let scope = &around.scope;
+    let at = scope.names.table_at(scope.database, table.as_slice());
+    let columns = columns_of(scope.database.tables.get(at));
+    Fault::earlier(
+        of_keys(kind, keys, around),
+        of_row(kind, columns, row, around),
+    )
+}
+
+#[tactic(auto, using(crate::proofs::FirstFault::first_append))]
+fn of_update(
+    kind: Kind,
+    line: u32,
+    table: &Name,
+    times: Times,
+    keys: &[UpdateKey],
+    row: &[UpdateValue],
+    around: &Around,
+) -> Option<Fault>
+    requires { IsAround around.now }
+    ensures { result ≡ first (code kind) (Lines.at_line line (Own.update_fails around.now.scope.database.now around.now.scope.fields.now (block_names around.now.protocol.now) kind table.now times.validity times.keep times.hit keys.now row.now) ++ Own.update_lines around.now.scope.database.now around.now.scope.fields.now (block_names around.now.protocol.now) kind table.now keys.now row.now) }
+{
+    let wrong = update_fails(kind, table, times, keys, row, around);
+    let own = at_line(line, kind.code(), wrong);
+    Fault::earlier(own, of_parts(kind, table, keys, row, around))
+}
+
+/// The least fault of this kind of an element itself.
+pub fn own(kind: Kind, element: &Element, around: &Around) -> Option<Fault>
+    requires { IsAround around.now }
+    ensures { result ≡ first (code kind) (own_at (own_in around.now kind) element.now) }
+{
+    match element {
+        Element::Field {
+            line, form, show, ..
+        } => at_line(*line, kind.code(), field_fails(kind, form, show, around)),
+        Element::Block { .. } => None,
+        Element::IncludeBlock { line, name } => {
+            at_line(*line, kind.code(), include_fails(kind, name, around))
+        }
+        Element::Loop { line, expr, .. } => of_number(kind, *line, expr, around),
+        Element::LoopCtrl { .. } => None,
+        Element::Switch {
+            line, expr, cases, ..
+        } => Fault::earlier(
+            of_number(kind, *line, expr, around),
+            of_cases(kind, cases.as_slice()),
+        ),
+        Element::If { line, expr, .. } => of_number(kind, *line, expr, around),
+        Element::Assign { line, name, value } => {
+            at_line(*line, kind.code(), assign_fails(kind, name, value, around))
+        }
+        Element::Update {
+            line,
+            table,
+            validity,
+            keep,
+            hit,
+            keys,
+            row,
+        } => {
+            let times = Times {
+                validity: *validity,
+                keep: *keep,
+                hit: *hit,
+            };
+            let keys = keys.as_slice();
+            of_update(kind, *line, table, times, keys, row.as_slice(), around)
+        }
+        Element::NextProto { line, proto } => {
+            let wrong = fails(kind, Some(Ty::Proto), proto, around);
+            at_line(*line, kind.code(), wrong)
+        }
+    }
+}
+
+/// An expression that has to give a number.
+fn of_number(kind: Kind, line: u32, e: &Expr, around: &Around) -> Option<Fault>
+    requires { IsAround around.now }
+    ensures { result ≡ first (code kind) (Lines.at_line line (Own.fails around.now.scope.database.now around.now.scope.fields.now (block_names around.now.protocol.now) kind (Some Num) e.now)) }
+{
+    at_line(line, kind.code(), fails(kind, Some(Ty::Num), e, around))
+}
