@@ -1,3 +1,5 @@
+use crate::escape::unescaped;
+use crate::judged::{is_faulty, is_sound};
 use crate::output::says;
 use db_model::NoMemory;
 use npd_host::{CallKind, MemHost};
@@ -12,6 +14,8 @@ pub struct Case {
     host: MemHost,
     /// The file whose lines stand in the case, so far.
     text: String,
+    /// The file whose repeated pieces stand in the case, so far.
+    bytes: Vec<u8>,
     /// The exit number of the run, and the line that it would print.
     end: String,
     is_judged: bool,
@@ -28,6 +32,7 @@ impl Case {
         Some(Case {
             host: MemHost::new(alloc, chunk).ok()?,
             text: String::new(alloc),
+            bytes: Vec::new(alloc),
             end: String::new(alloc),
             is_judged: false,
         })
@@ -35,6 +40,11 @@ impl Case {
 
     /// Whether the case says how it ends, and did end so.
     pub fn is_judged(&self) -> bool {
+        self.is_judged
+    }
+
+    fn judge(&mut self, holds: Option<bool>) -> bool {
+        self.is_judged = holds == Some(true);
         self.is_judged
     }
 
@@ -50,6 +60,7 @@ impl Case {
             "file" => put(rt, &mut self.host, rest).is_some(),
             "padded" => put_padded(rt, &mut self.host, rest).is_some(),
             "text" => put_line(&mut self.host, &mut self.text, rest).is_some(),
+            "repeated" => put_repeated(rt.alloc(), &mut self.host, &mut self.bytes, rest).is_some(),
             "fail" => plan_failure(&mut self.host, rest).is_some(),
             "run" => set(&mut self.end, run(rt.alloc(), &mut self.host, rest)),
             "refused" => set(&mut self.end, ended(rt.alloc(), &Status::NoMemory)),
@@ -57,6 +68,8 @@ impl Case {
                 self.is_judged = self.end() == rest;
                 self.is_judged
             }
+            "sound" => self.judge(is_sound(rt.alloc(), rest)),
+            "faulty" => self.judge(is_faulty(rt.alloc(), rest)),
             _ => says(rt, &self.host, word, rest).unwrap_or(false),
         }
     }
@@ -97,6 +110,17 @@ fn put_line(host: &mut MemHost, text: &mut String, rest: &str) -> Option<()> {
     host.put_file(name, text.as_bytes()).ok()
 }
 
+/// `repeated NAME COUNT PIECE`: the input NAME has the pieces that the case gave so far, and this one COUNT times.
+fn put_repeated(alloc: Global, host: &mut MemHost, bytes: &mut Vec<u8>, rest: &str) -> Option<()> {
+    let (name, rest) = rest.split_once(' ')?;
+    let (count, piece) = rest.split_once(' ')?;
+    let piece = unescaped(alloc, piece)?;
+    for _turn in 0..count.parse::<u32>().ok()? {
+        bytes.extend_from_slice(piece.as_slice()).ok()?;
+    }
+    host.put_file(name, bytes.as_slice()).ok()
+}
+
 /// `fail KIND NUMBER`: the call of this kind and number, counted from 0, fails.
 fn plan_failure(host: &mut MemHost, rest: &str) -> Option<()> {
     let (word, number) = rest.split_once(' ')?;
@@ -130,7 +154,7 @@ fn ended(alloc: Global, status: &Status) -> Option<String> {
 }
 
 /// `run WORDS`: runs the top call, and gives how it ended.
-fn run(alloc: Global, host: &mut MemHost, text: &str) -> Option<String> {
+pub fn run(alloc: Global, host: &mut MemHost, text: &str) -> Option<String> {
     let words = words_of(alloc, text).ok()?;
     ended(alloc, &run_serial(alloc, &words, host))
 }

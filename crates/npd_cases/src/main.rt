@@ -3,6 +3,8 @@
 #![tactic(auto)]
 
 mod case;
+mod escape;
+mod judged;
 mod output;
 
 use case::Case;

@@ -101,17 +101,6 @@ pub const EMPTY: &[u8] = b"<netpdl>
 </netpdl>
 ";
 
-/// A text that ends early.
-pub const CUT: &[u8] = b"<netpdl>
-<protocol name=\"startproto\">
-";
-
-/// An element that there isn't.
-pub const UNKNOWN: &[u8] = b"<netpdl>
-<asn1/>
-</netpdl>
-";
-
 /// What the others don't have: the remaining elements, forms and attributes.
 pub const REMAINING: &[u8] = b"<netpdl name='all' version='1' creator='me' date='today'>
 <variable name='$n' type='num' value='0x10' validity='packet'/><variable name='$p' type='proto' value='#a'/>

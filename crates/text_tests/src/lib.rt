@@ -1,4 +1,5 @@
-//! Tests of the text form of databases, over the built crates.
+//! Tests of what is read from database texts, over the built crates. Which texts are refused, with what line and
+//! code, are cases of `npd_cases`.
 #![tactic(auto)]
 
 #[cfg(test)]
@@ -7,12 +8,6 @@ mod contents;
 mod databases;
 #[cfg(test)]
 mod elements;
-#[cfg(test)]
-mod faults;
-#[cfg(test)]
-mod limits;
-#[cfg(test)]
-mod load;
 #[cfg(test)]
 mod outline;
 #[cfg(test)]

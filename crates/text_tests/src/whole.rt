@@ -1,24 +1,9 @@
-use crate::databases::{
-    CIRCLE, CUT, EMPTY, ENTRIES, FRAME, LONE_BIT, REMAINING, SESSIONS, UNKNOWN,
-};
-use crate::load::{Fault, has_fault};
+use crate::databases::{CIRCLE, EMPTY, ENTRIES, FRAME, LONE_BIT, REMAINING, SESSIONS};
 use crate::outline::lines_of;
 use db_load::load_database;
 use db_model::DbFail;
 use std::alloc::Global;
 use std::test::Fail;
-
-const FAULTS: [(&[u8], Fault); 9] = [
-    (SESSIONS, None),
-    (ENTRIES, None),
-    (FRAME, None),
-    (LONE_BIT, None),
-    (CIRCLE, None),
-    (EMPTY, None),
-    (CUT, Some((3, 2))),
-    (UNKNOWN, Some((2, 20))),
-    (REMAINING, None),
-];
 
 /// Databases and their lines.
 const LINES: [(&[u8], &[u8]); 7] = [
@@ -327,15 +312,6 @@ fn has_lines(alloc: Global, text: &[u8], lines: &[u8]) -> Result<bool, DbFail> {
     let db = load_database(alloc, text)?;
     let found = lines_of(alloc, &db)?;
     Ok(found.as_slice() == lines)
-}
-
-#[test]
-fn whole_databases_are_read(rt: HostRuntime) -> Result<(), Fail> {
-    for (text, fault) in &FAULTS {
-        let is_so = has_fault(rt.alloc(), text, *fault)?;
-        assert!(rt; is_so);
-    }
-    Ok(())
 }
 
 #[test]
