@@ -6,10 +6,10 @@ use std::test::Fail;
 
 #[test]
 fn empties_a_longer_file(rt: HostRuntime) -> Result<(), Fail> {
-    fs::write(&rt, "out", b"a longer text")?;
-    writes(&mut FileHost::new(&rt, rt.alloc()), "out", b"short\n\x00")?;
-    assert!(rt; fs::read(&rt, "out")?.as_slice() == b"short\n\x00".as_slice());
-    assert!(rt; holds(&mut FileHost::new(&rt, rt.alloc()), "out", b"short\n\x00")?);
+    fs::write(&rt, "written", b"a longer text")?;
+    writes(&mut FileHost::new(&rt, rt.alloc()), "written", b"short\n\x00")?;
+    assert!(rt; fs::read(&rt, "written")?.as_slice() == b"short\n\x00".as_slice());
+    assert!(rt; holds(&mut FileHost::new(&rt, rt.alloc()), "written", b"short\n\x00")?);
     Ok(())
 }
 
@@ -56,7 +56,7 @@ fn repeats_an_interrupted_call(rt: HostRuntime) -> Result<(), Fail> {
         };
         let mut host = FileHost::new(&slow, rt.alloc());
         assert!(rt; holds(&mut host, "in", b"abcd") == read);
-        assert!(rt; writes(&mut host, "out", b"abcd") == written);
+        assert!(rt; writes(&mut host, "written", b"abcd") == written);
     }
     Ok(())
 }
