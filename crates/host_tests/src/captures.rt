@@ -13,14 +13,17 @@ const LITTLE_MICRO: &[u8] =
     b"\xd4\xc3\xb2\xa1\x02\x00\x04\x00\x00\x00\x00\x00\x00\x00\x00\x00\x00\x00\x04\x00\x01\x00\x01\x00\
 \x01\x00\x00\x00\x02\x00\x00\x00\x03\x00\x00\x00\x3c\x00\x00\x00\xaa\xbb\xcc\
 \x05\x00\x00\x00\x07\x00\x00\x00\x00\x00\x00\x00\x00\x00\x00\x00";
+
 const LITTLE_NANO: &[u8] =
     b"\x4d\x3c\xb2\xa1\x02\x00\x04\x00\x00\x00\x00\x00\x00\x00\x00\x00\x00\x00\x04\x00\x01\x00\x01\x00\
 \x01\x00\x00\x00\x02\x00\x00\x00\x03\x00\x00\x00\x3c\x00\x00\x00\xaa\xbb\xcc\
 \x05\x00\x00\x00\x07\x00\x00\x00\x00\x00\x00\x00\x00\x00\x00\x00";
+
 const BIG_MICRO: &[u8] =
     b"\xa1\xb2\xc3\xd4\x00\x02\x00\x04\x00\x00\x00\x00\x00\x00\x00\x00\x00\x04\x00\x00\x00\x01\x00\x01\
 \x00\x00\x00\x01\x00\x00\x00\x02\x00\x00\x00\x03\x00\x00\x00\x3c\xaa\xbb\xcc\
 \x00\x00\x00\x05\x00\x00\x00\x07\x00\x00\x00\x00\x00\x00\x00\x00";
+
 const BIG_NANO: &[u8] =
     b"\xa1\xb2\x3c\x4d\x00\x02\x00\x04\x00\x00\x00\x00\x00\x00\x00\x00\x00\x04\x00\x00\x00\x01\x00\x01\
 \x00\x00\x00\x01\x00\x00\x00\x02\x00\x00\x00\x03\x00\x00\x00\x3c\xaa\xbb\xcc\
@@ -77,7 +80,11 @@ fn more_twice<H: Host>(host: &mut H, reader: &mut CapReader) -> Result<bool, End
 {
     match reader.more(host) {
         Ok(first) => match reader.more(host) {
-            Ok(second) => if first == second { Ok(first) } else { Err(End::Torn) },
+            Ok(second) => if first == second {
+                Ok(first)
+            } else {
+                Err(End::Torn)
+            },
             Err(fail) => Err(end_of(&fail)),
         },
         Err(fail) => Err(end_of(&fail)),
@@ -117,17 +124,17 @@ fn step<H: Host>(host: &mut H, reader: &mut CapReader) -> Result<u64, End>
     };
     match reader.next(host) {
         Ok(Next::Packet(packet)) => stamp_of(&packet),
-        Ok(Next::End) => Err(if more { End::Torn } else { end_twice(host, reader, End::Whole) }),
+        Ok(Next::End) => Err(if more {
+            End::Torn
+        } else {
+            end_twice(host, reader, End::Whole)
+        }),
         Err(fail) => Err(end_twice(host, reader, end_of(&fail))),
     }
 }
 
 /// At most three steps.
-fn steps<H: Host>(
-    alloc: Global,
-    host: &mut H,
-    reader: &mut CapReader,
-) -> Result<Read, HostFail>
+fn steps<H: Host>(alloc: Global, host: &mut H, reader: &mut CapReader) -> Result<Read, HostFail>
     requires reading { IsTrue (is_reading reader.old.state) }
     requires given { IsSome ((H.inputs host.old).name reader.old.id.0) }
     requires reach { InReach reader.old (H.inputs host.old) }
@@ -254,7 +261,16 @@ fn read_failing(alloc: Global, failing: u64) -> Result<(usize, End), HostFail> {
 
 #[test]
 fn tells_a_read_fault(rt: HostRuntime) -> Result<(), Fail> {
-    for (failing, count) in [(0, 0), (1, 0), (2, 0), (3, 0), (4, 1), (5, 1), (6, 2), (7, 2)] {
+    for (failing, count) in [
+        (0, 0),
+        (1, 0),
+        (2, 0),
+        (3, 0),
+        (4, 1),
+        (5, 1),
+        (6, 2),
+        (7, 2),
+    ] {
         let (read, end) = read_failing(rt.alloc(), failing)?;
         assert!(rt; read == count && end == End::ReadFault);
     }
@@ -269,7 +285,8 @@ fn is_one(alloc: Global, capture: &[u8], stamp: u64) -> Result<bool, HostFail> {
 
 #[test]
 fn reads_an_empty_packet(rt: HostRuntime) -> Result<(), Fail> {
-    let capture = b"\xa1\xb2\x3c\x4d\x00\x02\x00\x04\x00\x00\x00\x00\x00\x00\x00\x00\x00\x04\x00\x00\x00\x00\x00\x01\
+    let capture =
+        b"\xa1\xb2\x3c\x4d\x00\x02\x00\x04\x00\x00\x00\x00\x00\x00\x00\x00\x00\x04\x00\x00\x00\x00\x00\x01\
 \x00\x00\x00\x05\x00\x00\x00\x07\x00\x00\x00\x00\x00\x00\x00\x00";
     assert!(rt; is_one(rt.alloc(), capture, 5_000_000_007)?);
     Ok(())

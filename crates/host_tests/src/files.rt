@@ -7,9 +7,19 @@ use std::test::Fail;
 #[test]
 fn empties_a_longer_file(rt: HostRuntime) -> Result<(), Fail> {
     fs::write(&rt, "written", b"a longer text")?;
-    writes(&mut FileHost::new(&rt, rt.alloc()), "written", b"short\n\x00")?;
+    writes(
+        &mut FileHost::new(&rt, rt.alloc()),
+        "written",
+        b"short\n\x00",
+    )?;
     assert!(rt; fs::read(&rt, "written")?.as_slice() == b"short\n\x00".as_slice());
-    assert!(rt; holds(&mut FileHost::new(&rt, rt.alloc()), "written", b"short\n\x00")?);
+    assert!(rt;
+        holds(
+            &mut FileHost::new(&rt, rt.alloc()),
+            "written",
+            b"short\n\x00"
+        )?
+    );
     Ok(())
 }
 
