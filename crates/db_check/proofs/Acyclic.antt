@@ -20,7 +20,7 @@ use Rattle.db_model.specs.Numbering.{BlockAt, block_at, blocks_in, counts_in, fi
 use Rattle.db_laws.specs.Laws.{CyclesFound}
 use Rattle.db_check.specs.declared.heights.TheConstants.{TOO_HIGH}
 use Rattle.db_check.specs.First.{first}
-use Rattle.db_check.specs.Heights.{raised, tallest, case_heights, branch_height, height_step, height_of, height_in, height_at, next_heights, heights_after}
+use Rattle.db_check.specs.Heights.{raised, tallest, case_heights, branch_height, height_step, height_of, height_in, height_at, heights_after}
 use Rattle.db_check.proofs.Nesting.{height_by, body_height, within_is, deep_is, after_none, after_one}
 
 abbrev In : Text → List Text → Type 0

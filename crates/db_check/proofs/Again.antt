@@ -1,5 +1,5 @@
 -- A name is declared again exactly where its first place isn't its own.
-use Rattle.std.specs.Prelude.{◌≡◌, ℕ, zero, suc, ◌+◌, ◌<◌, nat_lt, Bool, true, false, ◌||◌, if◌then◌else◌, List, [], ◌∷◌, ◌++◌, map, length, drop, get_or, slice_get, bytes_eq, unwrap_or, Option, Some, None}
+use Rattle.std.specs.Prelude.{◌≡◌, ℕ, zero, suc, ◌+◌, ◌<◌, nat_lt, Bool, true, false, ◌||◌, if◌then◌else◌, List, [], ◌∷◌, ◌++◌, map, length, drop, get_or, slice_get, bytes_eq, unwrap_or, Option, Some}
 use Rattle.std.specs.Map.{lookup}
 use Rattle.std.proofs.Common.{refl, ap, sym, ◌∙◌, append_assoc, arith}
 use Rattle.std.proofs.lemmas.List.{at_drop_more}
@@ -101,9 +101,9 @@ module _ {X : Type 0} (name : X → Text) (line : X → ℕ) where
       let more : suc i ≡ i + 1 = omega arith in
       let rest : Lines = repeated_from taken (map name xs) (i + 1) (map declared_as (drop (i + 1) xs)) in
       let here : repeated_from taken (map name xs) i (map declared_as (drop i xs)) ≡ at_line (line x) again ++ rest =
-        at_drop_more (λ (l : List X). repeated_from taken (map name xs) i (map declared_as l)) xs i x h
-        ∙ (ap (λ y. repeated_from taken (map name xs) i (map declared_as (y ∷ drop (i + 1) xs))) (sym e)
-        ∙ (λ j. at_line (line x) (sym a j) ++ repeated_from taken (map name xs) (more j) (map declared_as (drop (i + 1) xs)))) in
+      at_drop_more (λ (l : List X). repeated_from taken (map name xs) i (map declared_as l)) xs i x h
+      ∙ (ap (λ y. repeated_from taken (map name xs) i (map declared_as (y ∷ drop (i + 1) xs))) (sym e)
+      ∙ (λ j. at_line (line x) (sym a j) ++ repeated_from taken (map name xs) (more j) (map declared_as (drop (i + 1) xs)))) in
       ap (λ b. earlier b (first 40 rest)) (n ∙ ap (earlier found) o)
       ∙ (earlier_assoc found (first 40 (at_line (line x) again)) (first 40 rest)
       ∙ (ap (earlier found) (sym (ap (first 40) here ∙ first_append 40 (at_line (line x) again) rest)) ∙ k))

@@ -1,5 +1,5 @@
 -- Declarations one after another: those too many, and the entries of tables.
-use Rattle.std.specs.Prelude.{◌≡◌, ◌⊎◌, ℕ, zero, suc, ◌+◌, ◌-◌, ◌^◌, ◌<◌, ◌≤◌, min, Bool, true, false, ◌||◌, nat_lt, nat_le, List, [], ◌∷◌, ◌++◌, map, length, drop, get_or, slice_get, Option, Some, None}
+use Rattle.std.specs.Prelude.{◌≡◌, ◌⊎◌, ℕ, zero, suc, ◌+◌, ◌-◌, ◌^◌, ◌<◌, ◌≤◌, min, Bool, true, false, ◌||◌, nat_lt, nat_le, List, [], ◌∷◌, ◌++◌, map, length, drop, get_or, slice_get, Option, None}
 use Rattle.std.proofs.Common.{refl, ap, sym, ◌∙◌, append_assoc, arith, inl, inr, ltb, ltb-true}
 use Rattle.std.proofs.lemmas.Bool.Decides.{nat_tests}
 use Rattle.std.proofs.lemmas.List.{at_drop_more}
@@ -67,7 +67,7 @@ tables_next ts i t before after found one next whole h e o n s k =
     let sum : ℕ = before + t.exact_entries in
     let same : tables_43 sum rest ≡ tables_43 after rest = alike_tables sum (min sum (2 ^ 64 - 1)) rest (by_cap sum (2 ^ 64 - 1) (nat_le sum (2 ^ 64 - 1)) refl (omega arith)) ∙ ap (λ m. tables_43 m rest) (sym s) in
     let here : tables_43 before (drop i ts) ≡ table_lines before t ++ tables_43 after rest =
-      at_drop_more (tables_43 before) ts i t h ∙ (ap (λ (y : TableDecl). tables_43 before (y ∷ rest)) (sym e) ∙ (first_table before t rest ∙ ap (λ l. table_lines before t ++ l) same)) in
+    at_drop_more (tables_43 before) ts i t h ∙ (ap (λ (y : TableDecl). tables_43 before (y ∷ rest)) (sym e) ∙ (first_table before t rest ∙ ap (λ l. table_lines before t ++ l) same)) in
     ap (λ a. earlier a (first 43 (tables_43 after rest))) (n ∙ ap (earlier found) o)
     ∙ (earlier_assoc found (first 43 (table_lines before t)) (first 43 (tables_43 after rest))
     ∙ (ap (earlier found) (sym (ap (first 43) here ∙ first_append 43 (table_lines before t) (tables_43 after rest))) ∙ k))

@@ -1,5 +1,5 @@
 -- The one form of the four kinds of fault is each of them.
-use Rattle.std.specs.Prelude.{◌≡◌, ℕ, zero, suc, Bool, true, false, not, ◌||◌, if◌then◌else◌, List, [], ◌∷◌, ◌++◌, map, slice_get, drop, length, get_or, ◌+◌, ◌<◌, ◌≤◌, Option, Some, None}
+use Rattle.std.specs.Prelude.{◌≡◌, ℕ, zero, suc, Bool, false, ◌||◌, List, [], ◌∷◌, ◌++◌, map, slice_get, drop, length, get_or, ◌+◌, ◌<◌, ◌≤◌, Option, Some}
 use Rattle.std.specs.Option.{option_map}
 use Rattle.std.proofs.Common.{refl, ap, sym, ◌∙◌, append-nil, arith}
 use Rattle.std.proofs.lemmas.List.{at_drop_more, at_drop_all}
@@ -148,9 +148,9 @@ wants_next f code cs vs i v wanted found one next whole h e w o n k =
     let rest : Lines = over f (column_wants (drop (i + 1) cs) (drop (i + 1) vs)) in
     let more : suc i ≡ i + 1 = omega arith in
     let here : over f (column_wants (drop i cs) (drop i vs)) ≡ f (wanted, v) ++ rest =
-      ap (λ l. over f (column_wants (drop i cs) l)) (at_drop_more (λ (l : List UpdateValue). l) vs i v h ∙ ap (λ y. y ∷ drop (i + 1) vs) (sym e))
-      ∙ (ap (over f) (wants_at cs i v (drop (i + 1) vs))
-      ∙ (λ j. f (sym w j, v) ++ over f (column_wants (drop (more j) cs) (drop (i + 1) vs)))) in
+    ap (λ l. over f (column_wants (drop i cs) l)) (at_drop_more (λ (l : List UpdateValue). l) vs i v h ∙ ap (λ y. y ∷ drop (i + 1) vs) (sym e))
+    ∙ (ap (over f) (wants_at cs i v (drop (i + 1) vs))
+    ∙ (λ j. f (sym w j, v) ++ over f (column_wants (drop (more j) cs) (drop (i + 1) vs)))) in
     ap (λ a. earlier a (first code rest)) (n ∙ ap (earlier found) o)
     ∙ (earlier_assoc found (first code (f (wanted, v))) (first code rest)
     ∙ (ap (earlier found) (sym (ap (first code) here ∙ first_append code (f (wanted, v)) rest)) ∙ k))

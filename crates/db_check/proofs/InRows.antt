@@ -51,11 +51,11 @@ row_next xs i x behind found own inner one next whole l g b o w e n h =
     let own_is : own ≡ first 44 here = o ∙ ap (λ (l : List Element). first 44 (at_line (in_row_of x).line (is_unfollowed (in_row_of x).bit (map in_row_of l)))) b in
     let left : list_44 (drop i xs) ≡ here ++ ((in_row_of x).within ++ list_44 rest) = at_drop_more list_44 xs i x l ∙ ap (λ (y : Element). list_44 (y ∷ rest)) (sym g) in
     let both : first 44 (list_44 (drop i xs)) ≡ earlier one (first 44 (list_44 rest)) =
-      ap (first 44) left
-      ∙ (first_append 44 here ((in_row_of x).within ++ list_44 rest)
-      ∙ (ap (earlier (first 44 here)) (first_append 44 (in_row_of x).within (list_44 rest))
-      ∙ (sym (earlier_assoc (first 44 here) (first 44 (in_row_of x).within) (first 44 (list_44 rest)))
-      ∙ ap (λ a. earlier a (first 44 (list_44 rest))) ((λ j. earlier (sym own_is j) (sym w j)) ∙ sym e)))) in
+    ap (first 44) left
+    ∙ (first_append 44 here ((in_row_of x).within ++ list_44 rest)
+    ∙ (ap (earlier (first 44 here)) (first_append 44 (in_row_of x).within (list_44 rest))
+    ∙ (sym (earlier_assoc (first 44 here) (first 44 (in_row_of x).within) (first 44 (list_44 rest)))
+    ∙ ap (λ a. earlier a (first 44 (list_44 rest))) ((λ j. earlier (sym own_is j) (sym w j)) ∙ sym e)))) in
     ap (λ a. earlier a (first 44 (list_44 rest))) n
     ∙ (earlier_assoc found one (first 44 (list_44 rest))
     ∙ (ap (earlier found) (sym both) ∙ h))

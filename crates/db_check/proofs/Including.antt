@@ -1,5 +1,5 @@
 -- A block includes itself exactly where its number leads back to itself.
-use Rattle.std.specs.Prelude.{◌≡◌, ◌⊎◌, ◌↔◌, ℕ, zero, suc, ◌+◌, ◌<◌, ◌≤◌, nat_lt, Bool, true, false, not, ◌||◌, ◌&&◌, if◌then◌else◌, List, [], ◌∷◌, ◌++◌, map, length, drop, get_or, slice_get, bytes_eq, Option, Some, None}
+use Rattle.std.specs.Prelude.{◌≡◌, ℕ, zero, suc, ◌+◌, ◌<◌, nat_lt, Bool, true, false, not, ◌||◌, ◌&&◌, if◌then◌else◌, List, [], ◌∷◌, ◌++◌, map, length, drop, get_or, slice_get, bytes_eq, Option, Some}
 use Rattle.std.specs.List.{list_any}
 use Rattle.std.specs.Cmp.Lexicographic.{bytes_decides}
 use Rattle.std.proofs.Common.{refl, sym, ap, subst, ◌∙◌, arith, inl, inr}
@@ -14,7 +14,6 @@ use Rattle.db_model.specs.Lines.{Lines, over, at_line}
 use Rattle.db_model.specs.NameFaults.{block_names}
 use Rattle.db_model.specs.Names.{Text, place}
 use Rattle.db_model.specs.Numbering.{Counts, plus, a_block, counts_in, block_from, block_at, blocks_in, fields_in}
-use Rattle.db_model.specs.Typing.{is_among}
 use Rattle.db_model.proofs.LeastFault.{earlier_assoc}
 use Rattle.db_laws.specs.Laws.{CyclesFound}
 use Rattle.db_check.specs.First.{first}
@@ -194,9 +193,9 @@ cycle_next g names bs i b wrong found one next whole h e w o n k =
     let more : suc i ≡ i + 1 = omega arith in
     let rest : Lines = cycles_from g names (i + 1) (drop (i + 1) bs) in
     let here : cycles_from g names i (drop i bs) ≡ at_line b.line wrong ++ rest =
-      at_drop_more (cycles_from g names i) bs i b h
-      ∙ (ap (λ (y : NamedBlock). cycles_from g names i (y ∷ drop (i + 1) bs)) (sym e)
-      ∙ (λ j. at_line b.line (sym w j) ++ cycles_from g names (more j) (drop (i + 1) bs))) in
+    at_drop_more (cycles_from g names i) bs i b h
+    ∙ (ap (λ (y : NamedBlock). cycles_from g names i (y ∷ drop (i + 1) bs)) (sym e)
+    ∙ (λ j. at_line b.line (sym w j) ++ cycles_from g names (more j) (drop (i + 1) bs))) in
     ap (λ a. earlier a (first 45 rest)) (n ∙ ap (earlier found) o)
     ∙ (earlier_assoc found (first 45 (at_line b.line wrong)) (first 45 rest)
     ∙ (ap (earlier found) (sym (ap (first 45) here ∙ first_append 45 (at_line b.line wrong) rest)) ∙ k))

@@ -1,7 +1,7 @@
 -- The lines of an element are its own and those of the elements in it.
 use Rattle.std.specs.Prelude.{◌≡◌, ℕ, List, [], ◌∷◌, ◌++◌, map, Option, Some, None}
 use Rattle.std.specs.Option.{option_map}
-use Rattle.std.proofs.Common.{refl, ap, sym, ◌∙◌}
+use Rattle.std.proofs.Common.{refl, ap, ◌∙◌}
 use Rattle.db_model.specs.declared.element.Branch.{Branch}
 use Rattle.db_model.specs.declared.element.Case.{Case}
 use Rattle.db_model.specs.declared.element.Element as element
@@ -9,7 +9,7 @@ use Rattle.db_model.specs.declared.element.Element.{Element}
 use Rattle.db_model.specs.declared.element.LoopKind.{LoopKind}
 use Rattle.db_model.specs.declared.expression.Expr.{Expr}
 use Rattle.db_model.specs.declared.database.Protocol.{Protocol}
-use Rattle.db_model.specs.Chain.{elements_of, before_in, after_in}
+use Rattle.db_model.specs.Chain.{before_in, after_in}
 use Rattle.db_model.specs.Folds.{CaseOf, BranchOf, ElementOf}
 use Rattle.db_model.specs.Lines.{Lines, joined, over, over_option, inside, lines_of, lines_in}
 use Rattle.db_model.specs.Names.{Text}
@@ -60,8 +60,8 @@ module _ (own : ElementOf Lines → Lines) where
   parts_are p = ap (λ l. l ++ lines_of_blocks own (blocks_in p.format))
       (over_append (lines_of own) (before_in p.execute_code) (fields_in p.format ++ (after_in p.execute_code ++ elements_in p.encapsulation))
       ∙ ap (λ l. over (lines_of own) (before_in p.execute_code) ++ l)
-        (over_append (lines_of own) (fields_in p.format) (after_in p.execute_code ++ elements_in p.encapsulation)
-        ∙ ap (λ l. over (lines_of own) (fields_in p.format) ++ l) (over_append (lines_of own) (after_in p.execute_code) (elements_in p.encapsulation))))
+      (over_append (lines_of own) (fields_in p.format) (after_in p.execute_code ++ elements_in p.encapsulation)
+      ∙ ap (λ l. over (lines_of own) (fields_in p.format) ++ l) (over_append (lines_of own) (after_in p.execute_code) (elements_in p.encapsulation))))
 
   pub parts_first : (k : ℕ) (p : Protocol) → first k (lines_in own p) ≡ earlier (earlier (first k (over (lines_of own) (before_in p.execute_code))) (earlier (first k (over (lines_of own) (fields_in p.format))) (earlier (first k (over (lines_of own) (after_in p.execute_code))) (first k (over (lines_of own) (elements_in p.encapsulation)))))) (first k (lines_of_blocks own (blocks_in p.format)))
   parts_first k p =

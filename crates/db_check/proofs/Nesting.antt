@@ -1,5 +1,5 @@
 -- The heights of a table are those of the definition: what stands within some levels has at most that height.
-use Rattle.std.specs.Prelude.{◌≡◌, ℕ, zero, suc, ◌+◌, min, max, ◌<◌, ◌≤◌, nat_lt, nat_le, Bool, true, false, not, ◌&&◌, if◌then◌else◌, List, [], ◌∷◌, ◌++◌, map, slice_get, unwrap_or, bytes_eq, is_some, Option, Some, None}
+use Rattle.std.specs.Prelude.{◌≡◌, ℕ, zero, suc, ◌+◌, max, ◌<◌, ◌≤◌, nat_lt, nat_le, Bool, true, false, not, ◌&&◌, if◌then◌else◌, List, [], ◌∷◌, ◌++◌, map, slice_get, unwrap_or, bytes_eq, is_some, Option, Some, None}
 use Rattle.std.specs.List.{list_all}
 use Rattle.std.specs.Option.{option_map}
 use Rattle.std.proofs.Common.{refl, ap, sym, ◌∙◌, arith}
@@ -15,7 +15,7 @@ use Rattle.db_model.specs.declared.expression.Expr.{Expr}
 use Rattle.db_model.specs.declared.limits.TheConstants.{MOST_NESTED}
 use Rattle.db_model.specs.BlockFaults.{Within, one_within, all_within, cases_within, branch_within, within_step, within_of, within_in, block_by, block_within, protocol_within, is_nothing, protocol_45, protocol_46}
 use Rattle.db_model.specs.Chain.{elements_of, before_in, after_in}
-use Rattle.db_model.specs.Folds.{CaseOf, BranchOf, fold_row, fold_cases, fold_held}
+use Rattle.db_model.specs.Folds.{fold_row, fold_cases, fold_held}
 use Rattle.db_model.specs.declared.fault.Fault.{Fault}
 use Rattle.db_model.specs.LeastFault.{comes_first, earlier}
 use Rattle.db_model.specs.Lines.{Lines, at_line}
@@ -189,8 +189,8 @@ pub run_height : (I : Text → ℕ) (p : Protocol) → height_in I (elements_of 
 run_height I p =
     height_append I (before_in p.execute_code) (fields_in p.format ++ (after_in p.execute_code ++ elements_in p.encapsulation))
     ∙ ap (max (height_in I (before_in p.execute_code)))
-      (height_append I (fields_in p.format) (after_in p.execute_code ++ elements_in p.encapsulation)
-      ∙ ap (max (height_in I (fields_in p.format))) (height_append I (after_in p.execute_code) (elements_in p.encapsulation)))
+    (height_append I (fields_in p.format) (after_in p.execute_code ++ elements_in p.encapsulation)
+    ∙ ap (max (height_in I (fields_in p.format))) (height_append I (after_in p.execute_code) (elements_in p.encapsulation)))
 
 -- fault 46 stands where fault 45 doesn't
 one_of_two : (b : Bool) (f g : Fault) → is_some (if b then Some f else Some g) ≡ true

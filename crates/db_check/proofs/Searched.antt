@@ -1,5 +1,5 @@
 -- A search marks exactly what its start leads to: each number that is marked waits in the queue for its turn, and the queue has room for all of them.
-use Rattle.std.specs.Prelude.{◌≡◌, ◌⊎◌, ◌↔◌, ℕ, zero, suc, ◌+◌, ◌-◌, ◌<◌, ◌≤◌, Bool, true, false, not, if◌then◌else◌, List, [], ◌∷◌, ◌++◌, map, length, slice_get, slice_set, Option, Some, None}
+use Rattle.std.specs.Prelude.{◌≡◌, ◌⊎◌, ◌↔◌, ℕ, zero, suc, ◌+◌, ◌-◌, ◌<◌, ◌≤◌, Bool, true, false, if◌then◌else◌, List, [], ◌∷◌, ◌++◌, map, length, slice_get, slice_set, Option, Some, None}
 use Rattle.std.proofs.Common.{refl, sym, ap, subst, ◌∙◌, arith, inl, inr}
 use Rattle.db_check.specs.declared.search.Search.{Search}
 use Rattle.db_check.specs.Graph.{Graph, targets, edges, IsOneOf, Leads, is_open, mark, visit, targets_at, go, is_marked, unmarked, leads_back}
@@ -368,9 +368,10 @@ all_searched g a = turns g a (length g) 0 (visit (edges g a) (unmarked g)) (begi
 
 pub search_is : (g : Graph) (a : ℕ) → (leads_back g (length g) a ≡ true) ↔ Leads g a a
 unfolding leads_back
-search_is g a =
-    (λ h. (all_searched g a).sound a (is_marked_by (slice_get (at_end g a).marks a) h),
-    λ r. ap is_marked (complete g a (length g + 0) (at_end g a) (all_searched g a) (omega arith) a a (inl refl) r (leads_within g a a r)))
+search_is g a = (
+  λ h. (all_searched g a).sound a (is_marked_by (slice_get (at_end g a).marks a) h),
+  λ r. ap is_marked (complete g a (length g + 0) (at_end g a) (all_searched g a) (omega arith) a a (inl refl) r (leads_within g a a r)),
+)
 
 -- ---- the code's turns
 

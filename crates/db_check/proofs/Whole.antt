@@ -1,5 +1,5 @@
 -- The least of all faults, by the parts of each kind.
-use Rattle.std.specs.Prelude.{◌≡◌, ℕ, false, not, List, [], ◌∷◌, ◌++◌, map, Option, Some, None}
+use Rattle.std.specs.Prelude.{◌≡◌, not, List, [], ◌∷◌, ◌++◌, map}
 use Rattle.std.proofs.Common.{refl, ap, sym, ◌∙◌}
 use Rattle.db_model.specs.declared.database.Database.{Database}
 use Rattle.db_model.specs.declared.database.Protocol.{Protocol}
@@ -7,7 +7,7 @@ use Rattle.db_model.specs.declared.fault.Fault.{Fault}
 use Rattle.db_check.specs.declared.kind.Kind.TheVariants as kind
 use Rattle.db_model.specs.declared.limits.TheConstants.{MOST_PROTOCOLS, MOST_VARIABLES, MOST_TABLES, MOST_SHOW_TEMPLATES, MOST_SUM_TEMPLATES}
 use Rattle.db_model.specs.BlockFaults.{fault_45, fault_46}
-use Rattle.db_model.specs.LeastFault.{earlier, least}
+use Rattle.db_model.specs.LeastFault.{earlier}
 use Rattle.db_model.specs.Lines.{Lines, over, over_option, at_line, lines_in}
 use Rattle.db_model.specs.NameFaults.{payload_name, repeated, repeated_in_table, repeated_blocks, repeated_sections, fault_40, fault_41, protocol_41, block_names}
 use Rattle.db_model.specs.Special.{special_names}
@@ -48,8 +48,8 @@ module _ (db : Database) where
       ap (λ l. first 41 (at_line db.line (not (is_protocol db startproto)) ++ (over (literal_lines db) db.variables ++ (over (template_lines db) db.sum_templates ++ l)))) (sym (over_same (protocol_lines db kind.Names) (protocol_41 db) one_41 db.protocols))
       ∙ (first_append 41 (at_line db.line (not (is_protocol db startproto))) (over (literal_lines db) db.variables ++ (over (template_lines db) db.sum_templates ++ over (protocol_lines db kind.Names) db.protocols))
       ∙ ap (earlier (first 41 (at_line db.line (not (is_protocol db startproto)))))
-        (first_append 41 (over (literal_lines db) db.variables) (over (template_lines db) db.sum_templates ++ over (protocol_lines db kind.Names) db.protocols)
-        ∙ ap (earlier (first 41 (over (literal_lines db) db.variables))) (first_append 41 (over (template_lines db) db.sum_templates) (over (protocol_lines db kind.Names) db.protocols))))
+      (first_append 41 (over (literal_lines db) db.variables) (over (template_lines db) db.sum_templates ++ over (protocol_lines db kind.Names) db.protocols)
+      ∙ ap (earlier (first 41 (over (literal_lines db) db.variables))) (first_append 41 (over (template_lines db) db.sum_templates) (over (protocol_lines db kind.Names) db.protocols))))
 
   pub all_42 : first 42 (fault_42 db) ≡ earlier (first 42 (over (type_lines db) db.variables)) (first 42 (over (protocol_lines db kind.Types) db.protocols))
   unfolding fault_42
@@ -63,8 +63,8 @@ module _ (db : Database) where
       ap (λ l. first 43 (tables_43 0 db.tables ++ (over template_43 db.show_templates ++ (l ++ counts_43 db)))) (sym (over_same (protocol_lines db kind.Numbers) (lines_in own_43) one_43 db.protocols))
       ∙ (first_append 43 (tables_43 0 db.tables) (over template_43 db.show_templates ++ (over (protocol_lines db kind.Numbers) db.protocols ++ counts_43 db))
       ∙ ap (earlier (first 43 (tables_43 0 db.tables)))
-        (first_append 43 (over template_43 db.show_templates) (over (protocol_lines db kind.Numbers) db.protocols ++ counts_43 db)
-        ∙ ap (earlier (first 43 (over template_43 db.show_templates))) (first_append 43 (over (protocol_lines db kind.Numbers) db.protocols) (counts_43 db))))
+      (first_append 43 (over template_43 db.show_templates) (over (protocol_lines db kind.Numbers) db.protocols ++ counts_43 db)
+      ∙ ap (earlier (first 43 (over template_43 db.show_templates))) (first_append 43 (over (protocol_lines db kind.Numbers) db.protocols) (counts_43 db))))
 
   pub all_44 : first 44 (fault_44 db) ≡ first 44 (over rows_in db.protocols)
   unfolding fault_44

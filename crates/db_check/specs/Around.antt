@@ -1,13 +1,10 @@
 -- What an element may name, known by name.
-use Rattle.std.specs.Prelude.{◌≡◌, List, map, slice_get, Some}
-use Rattle.db_model.specs.declared.database.Database.{Database}
+use Rattle.std.specs.Prelude.{◌≡◌, map, slice_get, Some}
 use Rattle.db_model.specs.NameFaults.{block_names}
 use Rattle.db_model.specs.NameIndex.{IsPlaces}
-use Rattle.db_model.specs.Names.{Text}
 use Rattle.expr_type.specs.Scope.{IsScope}
 use Rattle.db_check.specs.declared.around.Around.{Around}
 use Rattle.db_check.specs.Own
-use Rattle.db_model.specs.declared.element.Element.{Element}
 use Rattle.db_model.specs.Folds.{ElementOf}
 use Rattle.db_model.specs.Lines.{Lines}
 use Rattle.db_check.specs.declared.kind.Kind.{Kind}

@@ -4,8 +4,7 @@ use Rattle.db_model.specs.declared.database.NamedBlock.{NamedBlock}
 use Rattle.db_model.specs.declared.database.Protocol.{Protocol}
 use Rattle.db_model.specs.declared.element.Branch.{Branch}
 use Rattle.db_model.specs.declared.element.Case.{Case}
-use Rattle.db_model.specs.declared.element.Element.{Element, Row_of-Element, Row_of-Case, Held-Element-Switch-3}
-use Rattle.db_model.specs.BlockFaults.{includes_of, includes_in}
+use Rattle.db_model.specs.BlockFaults.{includes_in}
 use Rattle.db_model.specs.Lines.{Lines, at_line}
 use Rattle.db_model.specs.NameFaults.{block_names}
 use Rattle.db_model.specs.Names.{Text, place}

@@ -1,7 +1,6 @@
 -- The four kinds of fault of an element itself, in one form: what fails of its expressions, its numbers and its names.
-use Rattle.std.specs.Prelude.{ℕ, Bool, false, not, ◌||◌, nat_lt, List, [], ◌++◌, map, slice_get, Option, Some, None}
+use Rattle.std.specs.Prelude.{ℕ, Bool, false, not, ◌||◌, nat_lt, List, [], ◌++◌, map, slice_get, Option, Some}
 use Rattle.db_model.specs.declared.database.Database.{Database}
-use Rattle.db_model.specs.declared.database.TableDecl.{TableDecl}
 use Rattle.db_model.specs.declared.element.Element.TheOpen as layer
 use Rattle.db_model.specs.declared.element.FieldForm.{FieldForm}
 use Rattle.db_model.specs.declared.element.FieldForm.TheVariants as form

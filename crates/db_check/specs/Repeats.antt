@@ -1,5 +1,5 @@
 -- A name is declared again exactly where its first place among the declarations isn't its own.
-use Rattle.std.specs.Prelude.{ℕ, suc, Bool, ◌||◌, nat_lt, List, [], ◌∷◌, ◌++◌, map}
+use Rattle.std.specs.Prelude.{ℕ, suc, ◌||◌, nat_lt, List, [], ◌∷◌, ◌++◌}
 use Rattle.db_model.specs.Lines.{Lines, at_line}
 use Rattle.db_model.specs.NameFaults.{Declared}
 use Rattle.db_model.specs.Names.{Text, place}

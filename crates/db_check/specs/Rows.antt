@@ -4,7 +4,7 @@ use Rattle.db_model.specs.declared.database.NamedBlock.{NamedBlock}
 use Rattle.db_model.specs.declared.database.Protocol.{Protocol}
 use Rattle.db_model.specs.declared.element.Branch.{Branch}
 use Rattle.db_model.specs.declared.element.Case.{Case}
-use Rattle.db_model.specs.declared.element.Element.{Element, Row_of-Element, Row_of-Case, Held-Element-Switch-3}
+use Rattle.db_model.specs.declared.element.Element.{Element}
 use Rattle.db_model.specs.Folds.{fold_element}
 use Rattle.db_model.specs.Lines.{Lines, over, over_option}
 use Rattle.db_model.specs.Numbering.{fields_in, blocks_in}

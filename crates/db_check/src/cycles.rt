@@ -17,7 +17,11 @@ use std::alloc::Global;
 
 /// Puts the numbers of the included blocks behind those that are there. The same for all functions below.
 #[cycle(includes)]
-fn add_list(elements: &[Element], home: &Home, included: &mut Sequence<usize>) -> Result<(), NoMemory>
+fn add_list(
+    elements: &[Element],
+    home: &Home,
+    included: &mut Sequence<usize>,
+) -> Result<(), NoMemory>
     requires { IsHome home.now }
     ensures { OnOk result (included.new ≡ included.old ++ numbers (block_names home.now.protocol.now) (includes_in elements.now)) }
 {
@@ -28,7 +32,11 @@ fn add_list(elements: &[Element], home: &Home, included: &mut Sequence<usize>) -
 }
 
 #[cycle(includes)]
-fn add_element(element: &Element, home: &Home, included: &mut Sequence<usize>) -> Result<(), NoMemory>
+fn add_element(
+    element: &Element,
+    home: &Home,
+    included: &mut Sequence<usize>,
+) -> Result<(), NoMemory>
     requires { IsHome home.now }
     ensures { OnOk result (included.new ≡ included.old ++ numbers (block_names home.now.protocol.now) (includes_of element.now)) }
 {
@@ -39,13 +47,17 @@ fn add_element(element: &Element, home: &Home, included: &mut Sequence<usize>) -
         Element::Loop { body, .. } => add_list(body.as_slice(), home, included),
         Element::LoopCtrl { .. } => Ok(()),
         Element::Switch {
-            cases, otherwise, ..
+            cases,
+            otherwise,
+            ..
         } => {
             add_cases(cases.as_slice(), home, included)?;
             add_branch(otherwise, home, included)
         }
         Element::If {
-            if_true, if_false, ..
+            if_true,
+            if_false,
+            ..
         } => {
             add_list(if_true.as_slice(), home, included)?;
             add_branch(if_false, home, included)
@@ -68,7 +80,11 @@ fn add_cases(cases: &[Case], home: &Home, included: &mut Sequence<usize>) -> Res
 }
 
 #[cycle(includes)]
-fn add_branch(branch: &Option<Branch>, home: &Home, included: &mut Sequence<usize>) -> Result<(), NoMemory>
+fn add_branch(
+    branch: &Option<Branch>,
+    home: &Home,
+    included: &mut Sequence<usize>,
+) -> Result<(), NoMemory>
     requires { IsHome home.now }
     ensures { OnOk result (included.new ≡ included.old ++ numbers (block_names home.now.protocol.now) (includes_of_other branch.now)) }
 {
@@ -99,7 +115,13 @@ fn graph(alloc: Global, home: &Home) -> Result<Graph, NoMemory>
 }
 
 /// Whether the block of this number is the first of its name and includes itself.
-fn leads_here(alloc: Global, graph: &Graph, number: usize, name: &Name, home: &Home) -> Result<bool, NoMemory>
+fn leads_here(
+    alloc: Global,
+    graph: &Graph,
+    number: usize,
+    name: &Name,
+    home: &Home,
+) -> Result<bool, NoMemory>
     requires { IsHome home.now }
     ensures { IfOk result (λ r. r ≡ leads_here graph.now (block_names home.now.protocol.now) number name.now) }
 {

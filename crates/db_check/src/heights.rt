@@ -55,13 +55,17 @@ fn of_element(element: &Element, heights: &[u32], home: &Home) -> u32
         Element::Loop { body, .. } => raised(of_list(body.as_slice(), heights, home)),
         Element::LoopCtrl { .. } => 0,
         Element::Switch {
-            cases, otherwise, ..
+            cases,
+            otherwise,
+            ..
         } => taller(
             of_cases(cases.as_slice(), heights, home),
             of_branch(otherwise, heights, home),
         ),
         Element::If {
-            if_true, if_false, ..
+            if_true,
+            if_false,
+            ..
         } => taller(
             of_list(if_true.as_slice(), heights, home),
             of_branch(if_false, heights, home),

@@ -4,7 +4,6 @@
 #![tactic(auto)]
 
 mod around;
-
 mod cycles;
 mod field_names;
 mod first;

@@ -5,8 +5,8 @@ ghost use Rattle.db_model.specs.declared.limits.TheConstants.{MOST_BIT_SIZE, MOS
 ghost use Rattle.db_model.specs.NumberFaults;
 
 use db_model::{
-    FieldForm, LEAST_ALIGNMENT, MOST_ALIGNMENT, MOST_BIT_SIZE, MOST_COLUMN_SIZE, MOST_DECIMAL_GROUP, MOST_FIXED,
-    MOST_GROUP, MOST_TOKEN, ShowType,
+    FieldForm, LEAST_ALIGNMENT, MOST_ALIGNMENT, MOST_BIT_SIZE, MOST_COLUMN_SIZE,
+    MOST_DECIMAL_GROUP, MOST_FIXED, MOST_GROUP, MOST_TOKEN, ShowType,
 };
 
 pub fn is_outside(low: u32, high: u32, n: u32) -> bool

@@ -1,8 +1,8 @@
 ghost use Rattle.std.specs.Prelude.{◌≡◌};
 
 use db_model::{
-    ColumnDecl, Declaration, KeyDecl, NamedBlock, Protocol, SectionDecl, ShowTemplate,
-    SumTemplate, TableDecl, VarDecl,
+    ColumnDecl, Declaration, KeyDecl, NamedBlock, Protocol, SectionDecl, ShowTemplate, SumTemplate,
+    TableDecl, VarDecl,
 };
 
 /// A declaration with the line at which it begins.

@@ -14,7 +14,6 @@ ghost use Rattle.db_check.specs.Known.{IsKnown};
 use crate::first::at_line;
 use crate::kind::Kind;
 use crate::known::Known;
-
 use crate::{nested, numbers, repeats, rows, uses};
 use db_model::{
     Database, Fault, MOST_PROTOCOLS, MOST_SHOW_TEMPLATES, MOST_SUM_TEMPLATES, MOST_TABLES,

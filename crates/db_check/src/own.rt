@@ -267,7 +267,10 @@ pub fn own(kind: Kind, element: &Element, around: &Around) -> Option<Fault>
 {
     match element {
         Element::Field {
-            line, form, show, ..
+            line,
+            form,
+            show,
+            ..
         } => at_line(*line, kind.code(), field_fails(kind, form, show, around)),
         Element::Block { .. } => None,
         Element::IncludeBlock { line, name } => {
@@ -276,7 +279,10 @@ pub fn own(kind: Kind, element: &Element, around: &Around) -> Option<Fault>
         Element::Loop { line, expr, .. } => of_number(kind, *line, expr, around),
         Element::LoopCtrl { .. } => None,
         Element::Switch {
-            line, expr, cases, ..
+            line,
+            expr,
+            cases,
+            ..
         } => Fault::earlier(
             of_number(kind, *line, expr, around),
             of_cases(kind, cases.as_slice()),

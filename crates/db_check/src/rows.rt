@@ -112,10 +112,14 @@ fn within(element: &Element) -> Option<Fault>
         Element::Loop { body, .. } => of_list(body.as_slice()),
         Element::LoopCtrl { .. } => None,
         Element::Switch {
-            cases, otherwise, ..
+            cases,
+            otherwise,
+            ..
         } => Fault::earlier(of_cases(cases.as_slice()), of_branch(otherwise)),
         Element::If {
-            if_true, if_false, ..
+            if_true,
+            if_false,
+            ..
         } => Fault::earlier(of_list(if_true.as_slice()), of_branch(if_false)),
         Element::Assign { .. } => None,
         Element::Update { .. } => None,

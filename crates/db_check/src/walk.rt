@@ -34,13 +34,17 @@ fn inside(kind: Kind, element: &Element, around: &Around) -> Option<Fault>
         Element::Loop { body, .. } => of_list(kind, body.as_slice(), around),
         Element::LoopCtrl { .. } => None,
         Element::Switch {
-            cases, otherwise, ..
+            cases,
+            otherwise,
+            ..
         } => Fault::earlier(
             of_cases(kind, cases.as_slice(), around),
             of_branch(kind, otherwise, around),
         ),
         Element::If {
-            if_true, if_false, ..
+            if_true,
+            if_false,
+            ..
         } => Fault::earlier(
             of_list(kind, if_true.as_slice(), around),
             of_branch(kind, if_false, around),

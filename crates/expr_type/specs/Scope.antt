@@ -1,5 +1,4 @@
 -- What an expression may name, known by name.
-use Rattle.std.specs.Prelude.{List}
 use Rattle.db_model.specs.NameIndex.{IsIndex, IsPlaces}
 use Rattle.expr_type.specs.declared.scope.Scope.{Scope}
 

@@ -22,9 +22,18 @@ pub fn has_wrong_arity(e: &Expr, scope: &Scope) -> bool
         Expr::Column { .. } => false,
         Expr::IsPresent(_) => false,
         Expr::Not(a) => has_wrong_arity(a.get(), scope),
-        Expr::And(a, b) => either(has_wrong_arity(a.get(), scope), has_wrong_arity(b.get(), scope)),
-        Expr::Or(a, b) => either(has_wrong_arity(a.get(), scope), has_wrong_arity(b.get(), scope)),
-        Expr::Binary(_, a, b) => either(has_wrong_arity(a.get(), scope), has_wrong_arity(b.get(), scope)),
+        Expr::And(a, b) => either(
+            has_wrong_arity(a.get(), scope),
+            has_wrong_arity(b.get(), scope),
+        ),
+        Expr::Or(a, b) => either(
+            has_wrong_arity(a.get(), scope),
+            has_wrong_arity(b.get(), scope),
+        ),
+        Expr::Binary(_, a, b) => either(
+            has_wrong_arity(a.get(), scope),
+            has_wrong_arity(b.get(), scope),
+        ),
         Expr::Slice { base, from, count } => either(
             has_wrong_arity(base.get(), scope),
             either(

@@ -13,11 +13,10 @@ ghost use Rattle.db_model.specs.Typing.{type_of};
 ghost use Rattle.expr_type.specs.Scope.{IsScope};
 
 pub use arity::has_wrong_arity;
+use db_model::{Expr, Ty, TypeFault};
 pub use names::has_undeclared;
 pub use scope::Scope;
 pub use types::declared_type;
-
-use db_model::{Expr, Ty, TypeFault};
 
 /// The type of an expression. `Undeclared` comes where it names something that isn't declared, else `Arity` where
 /// a look-up has a wrong number of keys, else `Mistyped` where the types of its parts don't fit. Takes no memory,

@@ -1,4 +1,4 @@
-use Rattle.std.proofs.Common.{◌≡◌, ◌∙◌, ◌++◌, List, ℕ, ap, sym, subst, OnOk}
+use Rattle.std.proofs.Common.{◌≡◌, ◌∙◌, ◌++◌, List, ℕ, ap, subst, OnOk}
 use Rattle.db_model.specs.BlockFaults.{includes_of, includes_in}
 use Rattle.db_model.specs.NameFaults.{block_names}
 use Rattle.db_model.specs.Names.{Text}

@@ -1,7 +1,4 @@
-use Rattle.std.proofs.Common.{◌∙◌, ap}
-use Rattle.db_model.specs.Lines.{at_line}
 use Rattle.db_model.specs.NameFaults.{block_names}
-use Rattle.db_check.specs.First.{first}
 use Rattle.db_check.proofs.Including.{cycle_next}
 use Rattle.db_check.proofs.cycles.in_graph.Goals as goal
 

@@ -1,4 +1,4 @@
-use Rattle.std.proofs.Common.{◌≡◌, ◌∙◌, ◌++◌, ◌∷◌, [], List, sym, ap, subst, OnOk, refl}
+use Rattle.std.proofs.Common.{◌≡◌, ◌∙◌, ◌++◌, ◌∷◌, [], List, ap, subst, OnOk}
 use Rattle.db_model.specs.FieldNames.{names_of_cases, names_of_other}
 use Rattle.db_model.specs.Names.{Text}
 use Rattle.db_model.specs.Numbering.{names_in, names_of}

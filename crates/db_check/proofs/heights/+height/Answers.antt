@@ -1,7 +1,6 @@
-use Rattle.std.proofs.Common.{◌≡◌, ◌∙◌, ℕ, max, ap, sym}
+use Rattle.std.proofs.Common.{◌∙◌, max, ap, sym}
 use Rattle.db_model.specs.NameFaults.{block_names}
-use Rattle.db_model.specs.Names.{Text}
-use Rattle.db_check.specs.Heights.{raised, height_at, height_of, height_in, height_of_cases, height_of_other}
+use Rattle.db_check.specs.Heights.{raised, height_at, height_of, height_in, height_of_cases}
 use Rattle.db_check.proofs.Nesting.{height_block, height_loop, height_switch, height_if}
 use Rattle.db_check.proofs.heights.+height.Goals as goal
 

@@ -1,4 +1,4 @@
-use Rattle.std.proofs.Common.{◌≡◌, max, map, drop}
+use Rattle.std.proofs.Common.{◌≡◌, max, drop}
 use Rattle.db_model.specs.NameFaults.{block_names}
 use Rattle.db_check.specs.Heights.{height_at, height_in, height_of_cases}
 use Rattle.db_check.proofs.heights.+height.Given as goal

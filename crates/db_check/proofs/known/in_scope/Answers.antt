@@ -1,4 +1,4 @@
-use Rattle.std.proofs.Common.{◌≡◌, ◌∙◌, sym}
+use Rattle.std.proofs.Common.{◌∙◌, sym}
 use Rattle.db_model.specs.LeastFault.{earlier}
 use Rattle.db_model.specs.Lines.{at_line, lines_in}
 use Rattle.db_model.specs.NameFaults.{block_names}

@@ -1,4 +1,4 @@
-use Rattle.std.proofs.Common.{◌≡◌, ◌∙◌, ◌+◌, ◌-◌, ◌^◌, min, ap}
+use Rattle.std.proofs.Common.{◌∙◌, ◌+◌, ◌-◌, ◌^◌, min, ap}
 use Rattle.db_check.proofs.Declarations.{tables_next}
 use Rattle.db_check.proofs.numbers.of_tables.Goals as goal
 

@@ -1,4 +1,4 @@
-use Rattle.std.proofs.Common.{◌∙◌, ap}
+use Rattle.std.proofs.Common.{◌∙◌}
 use Rattle.db_check.specs.First.{first}
 use Rattle.db_check.proofs.FirstFault.{step_on, at_end}
 use Rattle.db_model.specs.Lines.{at_line}

@@ -1,5 +1,3 @@
-use Rattle.std.proofs.Common.{◌∙◌, ap}
-use Rattle.db_check.specs.First.{first}
 use Rattle.db_check.proofs.FirstFault.{step_on, at_end}
 use Rattle.db_model.specs.NameFaults.{repeated_in_table}
 use Rattle.db_check.proofs.repeats.in_tables.Goals as goal

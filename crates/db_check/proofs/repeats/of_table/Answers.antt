@@ -11,5 +11,5 @@ pub returns : goal.returns
 returns c =
     c.earlier.ensures
     ∙ ((λ i. earlier ((c.in_ok-again.ensures ∙ ap (λ l. first 40 (repeated [] (map (λ (k : KeyDecl). (k.name, k.line)) l))) c.as_slice-keys.ensures) i)
-        ((c.in_ok-columns.ensures ∙ (λ j. first 40 (repeated (map (λ (k : KeyDecl). k.name) (c.as_slice-keys.ensures j)) (map (λ (d : ColumnDecl). (d.name, d.line)) (c.as_slice.ensures j))))) i))
+    ((c.in_ok-columns.ensures ∙ (λ j. first 40 (repeated (map (λ (k : KeyDecl). k.name) (c.as_slice-keys.ensures j)) (map (λ (d : ColumnDecl). (d.name, d.line)) (c.as_slice.ensures j))))) i))
     ∙ sym (table_again c.args.table.now))

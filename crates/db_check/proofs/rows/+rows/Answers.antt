@@ -1,4 +1,4 @@
-use Rattle.std.proofs.Common.{◌≡◌, ◌∙◌, ◌+◌, ◌-◌, ap, sym, map, length, take, drop}
+use Rattle.std.proofs.Common.{◌∙◌, ◌+◌, ◌-◌, ap, sym, map, length, take, drop}
 use Rattle.db_model.specs.declared.element.Case.{Case}
 use Rattle.db_model.specs.LeastFault.{earlier}
 use Rattle.db_model.specs.NumberFaults.{list_44, is_unfollowed}

@@ -1,5 +1,3 @@
-use Rattle.std.proofs.Common.{◌∙◌, ap}
-use Rattle.db_check.specs.First.{first}
 use Rattle.db_check.proofs.FirstFault.{step_on, at_end}
 use Rattle.db_check.specs.Rows.{rows_in}
 use Rattle.db_check.proofs.rows.in_protocols.Goals as goal

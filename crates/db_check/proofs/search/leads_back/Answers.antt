@@ -1,6 +1,5 @@
-use Rattle.std.proofs.Common.{◌≡◌, ◌∙◌, ap, length, slice_get, arith}
-use Rattle.db_check.specs.declared.search.Search.{Search}
-use Rattle.db_check.specs.Graph.{go, visit, unmarked, is_marked, edges}
+use Rattle.std.proofs.Common.{◌≡◌, ◌∙◌, length, arith}
+use Rattle.db_check.specs.Graph.{go, visit, unmarked, edges}
 use Rattle.db_check.proofs.Searched.{go_next, go_end, found_is}
 use Rattle.db_check.proofs.search.leads_back.Goals as goal
 

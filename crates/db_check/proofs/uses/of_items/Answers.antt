@@ -1,5 +1,3 @@
-use Rattle.std.proofs.Common.{◌∙◌, ap}
-use Rattle.db_check.specs.First.{first}
 use Rattle.db_check.proofs.FirstFault.{step_on, at_end}
 use Rattle.db_model.specs.NameFaults.{item_41}
 use Rattle.db_check.proofs.uses.of_items.Goals as goal

@@ -1,4 +1,4 @@
-use Rattle.std.proofs.Common.{◌≡◌, ◌∙◌, ap, sym}
+use Rattle.std.proofs.Common.{◌∙◌, ap, sym}
 use Rattle.db_model.specs.declared.element.Case.{Case}
 use Rattle.db_model.specs.LeastFault.{earlier}
 use Rattle.db_model.specs.Lines.{over, lines_of}

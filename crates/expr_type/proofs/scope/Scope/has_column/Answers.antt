@@ -2,7 +2,7 @@ use Rattle.std.proofs.Common.{◌≡◌, ◌∙◌, ap, sym, length, List, Optio
 use Rattle.std.specs.Prelude.{nat_lt}
 use Rattle.db_model.specs.declared.database.ColumnDecl.{ColumnDecl}
 use Rattle.db_model.specs.declared.database.TableDecl.{TableDecl}
-use Rattle.db_model.specs.Names.{table_at, column_at}
+use Rattle.db_model.specs.Names.{column_at}
 use Rattle.expr_type.proofs.Declared.{column_in, declared_among}
 use Rattle.expr_type.proofs.scope.Scope.has_column.Goals as goal
 
