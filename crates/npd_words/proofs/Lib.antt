@@ -1,3 +1,1 @@
-mod Asks
 mod Digits
-mod WordByWord
