@@ -1,5 +1,5 @@
 -- What `parse` gives at decimal digits.
-use Rattle.std.proofs.Common.{◌≡◌, ℕ, ◌<◌, ◌^◌, true, if◌then◌else◌, List, length, Option, Some, None, Result, Ok, Err, inl, inr, arith, rules}
+use Rattle.std.proofs.Common.{◌≡◌, ℕ, ◌<◌, ◌^◌, true, if◌then◌else◌, List, length, Some, None, Result, Ok, Err, inl, inr, arith, rules}
 use Rattle.std.specs.Prelude.{nat_le}
 use Rattle.std.specs.Char.{is_ascii_digit}
 use Rattle.std.specs.List.{list_all}

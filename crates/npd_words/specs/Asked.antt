@@ -1,5 +1,5 @@
 -- What the words of a command line ask for: a plan, or the index and the code of the first fault.
-use Rattle.std.specs.Prelude.{ℕ, Bool, false, if◌then◌else◌, List, [], ◌∷◌, length, Option, Some, None, Result, Ok, Err}
+use Rattle.std.specs.Prelude.{ℕ, false, if◌then◌else◌, List, [], ◌∷◌, length, Option, Some, None, Result, Ok, Err}
 use Rattle.db_model.specs.Names.{Text}
 use Rattle.npd_words.specs.declared.command.Command.{Command}
 use Rattle.npd_words.specs.declared.fail.WordsFail.{WordsFail}

@@ -4,5 +4,6 @@ pub mod Numbers
 pub mod Occurrences
 pub mod Options
 pub mod Plans
+pub mod Ranges
 pub mod Rows
 pub mod Spelled

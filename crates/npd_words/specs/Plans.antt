@@ -40,9 +40,9 @@ number rs given o = number_by rs o (value_of given o)
 abbrev pub plan_of : Command → List Given → Plan
 plan_of command.Decode given =
     plan.Decode (file given option.Db) (file given option.Cap)
-        (value_of given option.Pdml) (value_of given option.Psml) (value_of given option.Trace) (value_of given option.Report)
-        (number (rows command.Decode) given option.Workers) (number (rows command.Decode) given option.Window) (number (rows command.Decode) given option.MaxPackets)
+    (value_of given option.Pdml) (value_of given option.Psml) (value_of given option.Trace) (value_of given option.Report)
+    (number (rows command.Decode) given option.Workers) (number (rows command.Decode) given option.Window) (number (rows command.Decode) given option.MaxPackets)
 plan_of command.Check given = plan.Check (file given option.Db)
 plan_of command.Gen given =
     plan.Gen (number (rows command.Gen) given option.Seed) (number (rows command.Gen) given option.Packets)
-        (number (rows command.Gen) given option.Workers) (number (rows command.Gen) given option.Window)
+    (number (rows command.Gen) given option.Workers) (number (rows command.Gen) given option.Window)

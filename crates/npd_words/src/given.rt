@@ -17,9 +17,13 @@ pub struct Given {
 }
 
 pub const UNKNOWN_OPTION: u8 = 3;
+
 pub const SECOND_TIME: u8 = 4;
+
 pub const NO_VALUE: u8 = 5;
+
 pub const EMPTY_VALUE: u8 = 6;
+
 pub const NO_NUMBER: u8 = 7;
 
 /// The row of the option that is written so.

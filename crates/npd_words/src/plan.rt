@@ -28,7 +28,9 @@ pub enum Plan {
         max: u32,
     },
     /// Check a database.
-    Check { db: Word },
+    Check {
+        db: Word,
+    },
     /// Make a capture and decode it.
     Gen {
         seed: u32,

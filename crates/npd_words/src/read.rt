@@ -1,5 +1,6 @@
 ghost use Rattle.std.specs.Prelude.{◌≡◌, ◌<◌, ◌^◌, Ok, Err, IfOk, IfErr, length, map, string_bytes};
 ghost use Rattle.npd_words.specs.Asked.{asked, planned, IfFault};
+ghost use Rattle.npd_words.specs.Ranges.{IsInRange};
 
 use crate::command::command_of;
 use crate::given::Given;
@@ -10,17 +11,15 @@ use crate::{Command, Plan, WordsFail, rows};
 use std::alloc::Global;
 
 const NO_WORD: u8 = 1;
+
 const UNKNOWN_COMMAND: u8 = 2;
+
 const MISSING: u8 = 8;
+
 const SAME_NAME: u8 = 9;
 
 /// The plan of options that may each stand so, of a command of so many words.
-fn plan_by(
-    alloc: Global,
-    command: Command,
-    count: u32,
-    given: &[Given],
-) -> Result<Plan, WordsFail>
+fn plan_by(alloc: Global, command: Command, count: u32, given: &[Given]) -> Result<Plan, WordsFail>
     ensures plan { IfOk result (λ p. planned command count given.now ≡ Ok p) }
     ensures fault { IfErr result (λ e. IfFault e (λ f. planned command count given.now ≡ Err f)) }
 {
@@ -45,6 +44,7 @@ pub fn read_words(alloc: Global, words: &[String]) -> Result<Plan, WordsFail>
     requires { length words.now < 2 ^ 32 }
     ensures plan { IfOk result (λ p. asked (map string_bytes words.now) ≡ Ok p) }
     ensures fault { IfErr result (λ e. IfFault e (λ f. asked (map string_bytes words.now) ≡ Err f)) }
+    ensures range { IfOk result IsInRange }
 {
     let Some((first, rest)) = words.split_first() else {
         return Err(WordsFail::Fault {

@@ -23,26 +23,70 @@ const ALL: u32 = 4_294_967_295;
 /// Words that have a plan.
 const PLANS: [Case; 32] = [
     (
-        &["decode", "--db", "d", "--cap", "c", "--pdml", "p", "--psml", "s"],
+        &[
+            "decode", "--db", "d", "--cap", "c", "--pdml", "p", "--psml", "s",
+        ],
         Wanted::Decode(["d", "c", "p", "s", "", ""], [4, 64, ALL]),
     ),
     (
-        &["decode", "--db", "d", "--cap", "c", "--pdml", "p", "--workers", "2", "--trace", "t"],
+        &[
+            "decode",
+            "--db",
+            "d",
+            "--cap",
+            "c",
+            "--pdml",
+            "p",
+            "--workers",
+            "2",
+            "--trace",
+            "t",
+        ],
         Wanted::Decode(["d", "c", "p", "", "t", ""], [2, 64, ALL]),
     ),
     (
-        &["decode", "--db", "d", "--cap", "c", "--report", "r", "--max-packets", "2"],
+        &[
+            "decode",
+            "--db",
+            "d",
+            "--cap",
+            "c",
+            "--report",
+            "r",
+            "--max-packets",
+            "2",
+        ],
         Wanted::Decode(["d", "c", "", "", "", "r"], [4, 64, 2]),
     ),
     (&["check", "--db", "d"], Wanted::Check("d")),
-    (&["gen", "--seed", "0", "--packets", "1"], Wanted::Gen([0, 1, 0, 64])),
     (
-        &["gen", "--seed", "7", "--packets", "2000", "--workers", "4", "--window", "256"],
+        &["gen", "--seed", "0", "--packets", "1"],
+        Wanted::Gen([0, 1, 0, 64]),
+    ),
+    (
+        &[
+            "gen",
+            "--seed",
+            "7",
+            "--packets",
+            "2000",
+            "--workers",
+            "4",
+            "--window",
+            "256",
+        ],
         Wanted::Gen([7, 2000, 4, 256]),
     ),
     // any order, and values behind `=`
     (
-        &["decode", "--window=1", "--cap=c", "--workers", "0", "--db=d"],
+        &[
+            "decode",
+            "--window=1",
+            "--cap=c",
+            "--workers",
+            "0",
+            "--db=d",
+        ],
         Wanted::Decode(["d", "c", "", "", "", ""], [0, 1, ALL]),
     ),
     (&["check", "--db=a=b"], Wanted::Check("a=b")),
@@ -67,7 +111,17 @@ const PLANS: [Case; 32] = [
     ),
     // a number is no name
     (
-        &["decode", "--db", "4", "--cap", "c", "--workers", "4", "--window", "4"],
+        &[
+            "decode",
+            "--db",
+            "4",
+            "--cap",
+            "c",
+            "--workers",
+            "4",
+            "--window",
+            "4",
+        ],
         Wanted::Decode(["4", "c", "", "", "", ""], [4, 4, ALL]),
     ),
     // the ends of each range
@@ -92,7 +146,15 @@ const PLANS: [Case; 32] = [
         Wanted::Decode(["d", "c", "", "", "", ""], [4, 64, 1]),
     ),
     (
-        &["decode", "--db", "d", "--cap", "c", "--max-packets", "4294967295"],
+        &[
+            "decode",
+            "--db",
+            "d",
+            "--cap",
+            "c",
+            "--max-packets",
+            "4294967295",
+        ],
         Wanted::Decode(["d", "c", "", "", "", ""], [4, 64, ALL]),
     ),
     (
@@ -104,7 +166,16 @@ const PLANS: [Case; 32] = [
         Wanted::Gen([1, 1, 64, 64]),
     ),
     (
-        &["gen", "--seed", "1", "--packets", "1", "--workers=0", "--window", "1"],
+        &[
+            "gen",
+            "--seed",
+            "1",
+            "--packets",
+            "1",
+            "--workers=0",
+            "--window",
+            "1",
+        ],
         Wanted::Gen([1, 1, 0, 1]),
     ),
     // up to ten digits
@@ -118,7 +189,9 @@ const PLANS: [Case; 32] = [
     ),
     // names are compared whole
     (
-        &["decode", "--db", "d", "--cap", "D", "--pdml", "dd", "--psml", "./d"],
+        &[
+            "decode", "--db", "d", "--cap", "D", "--pdml", "dd", "--psml", "./d",
+        ],
         Wanted::Decode(["d", "D", "dd", "./d", "", ""], [4, 64, ALL]),
     ),
 ];
@@ -161,8 +234,14 @@ const FAULTS: [Case; 83] = [
     (&["decode", "--db", "a", "--db="], Wanted::Fault(3, 4)),
     (&["decode", "--db", "a", "--db", "-x"], Wanted::Fault(3, 4)),
     (&["decode", "--db=a", "--db=a"], Wanted::Fault(2, 4)),
-    (&["decode", "--workers", "1", "--workers", "99"], Wanted::Fault(3, 4)),
-    (&["gen", "--seed=1", "--packets=1", "--seed=1"], Wanted::Fault(3, 4)),
+    (
+        &["decode", "--workers", "1", "--workers", "99"],
+        Wanted::Fault(3, 4),
+    ),
+    (
+        &["gen", "--seed=1", "--packets=1", "--seed=1"],
+        Wanted::Fault(3, 4),
+    ),
     // 5: no value follows
     (&["check", "--db"], Wanted::Fault(1, 5)),
     (&["check", "--db", "--db=d"], Wanted::Fault(1, 5)),
@@ -186,8 +265,14 @@ const FAULTS: [Case; 83] = [
     (&["decode", "--window", "0"], Wanted::Fault(1, 7)),
     (&["decode", "--window=257"], Wanted::Fault(1, 7)),
     (&["decode", "--max-packets", "0"], Wanted::Fault(1, 7)),
-    (&["decode", "--max-packets", "4294967296"], Wanted::Fault(1, 7)),
-    (&["decode", "--max-packets", "9999999999"], Wanted::Fault(1, 7)),
+    (
+        &["decode", "--max-packets", "4294967296"],
+        Wanted::Fault(1, 7),
+    ),
+    (
+        &["decode", "--max-packets", "9999999999"],
+        Wanted::Fault(1, 7),
+    ),
     (&["decode", "--window", "00000000001"], Wanted::Fault(1, 7)),
     (&["decode", "--window", "-"], Wanted::Fault(1, 7)),
     (&["decode", "--window=-1"], Wanted::Fault(1, 7)),
@@ -215,10 +300,18 @@ const FAULTS: [Case; 83] = [
     // 9: two files with one name
     (&["decode", "--db", "a", "--cap", "a"], Wanted::Fault(3, 9)),
     (&["decode", "--db", "-", "--cap", "-"], Wanted::Fault(3, 9)),
-    (&["decode", "--db=d", "--cap=c", "--pdml=d"], Wanted::Fault(3, 9)),
-    (&["decode", "--pdml", "d", "--cap", "c", "--db", "d"], Wanted::Fault(5, 9)),
     (
-        &["decode", "--db", "d", "--cap", "c", "--pdml", "-", "--psml", "-"],
+        &["decode", "--db=d", "--cap=c", "--pdml=d"],
+        Wanted::Fault(3, 9),
+    ),
+    (
+        &["decode", "--pdml", "d", "--cap", "c", "--db", "d"],
+        Wanted::Fault(5, 9),
+    ),
+    (
+        &[
+            "decode", "--db", "d", "--cap", "c", "--pdml", "-", "--psml", "-",
+        ],
         Wanted::Fault(7, 9),
     ),
     (
@@ -226,7 +319,9 @@ const FAULTS: [Case; 83] = [
         Wanted::Fault(5, 9),
     ),
     (
-        &["decode", "--db", "d", "--cap", "c", "--psml", "c", "--pdml", "d"],
+        &[
+            "decode", "--db", "d", "--cap", "c", "--psml", "c", "--pdml", "d",
+        ],
         Wanted::Fault(5, 9),
     ),
     (

@@ -38,12 +38,14 @@ fn has_names(alloc: Global, found: &ArgMatches<'_>) -> Result<bool, WordsFail> {
             trace: None,
             report: None,
             ..
-        } => Ok(found.get_str("db") == Some(db.as_str())
-            && found.get_str("cap") == Some(cap.as_str())
-            && found.get_str("pdml") == Some(pdml.as_str())
-            && found.get_str("psml") == Some(psml.as_str())
-            && !found.contains_id("trace")
-            && !found.contains_id("report")),
+        } => Ok(
+            found.get_str("db") == Some(db.as_str())
+                && found.get_str("cap") == Some(cap.as_str())
+                && found.get_str("pdml") == Some(pdml.as_str())
+                && found.get_str("psml") == Some(psml.as_str())
+                && !found.contains_id("trace")
+                && !found.contains_id("report"),
+        ),
         _ => Ok(false),
     }
 }
