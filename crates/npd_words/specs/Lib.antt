@@ -1,0 +1,9 @@
+pub mod Asked
+pub mod Names
+pub mod Numbers
+pub mod Occurrences
+pub mod Options
+pub mod Plans
+pub mod Ranges
+pub mod Rows
+pub mod Spelled

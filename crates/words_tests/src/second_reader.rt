@@ -1,0 +1,62 @@
+use crate::plans::plan_of;
+use clap::{Arg, ArgAction, ArgMatches, Command};
+use npd_words::{Plan, WordsFail};
+use std::alloc::{AllocError, Global};
+use std::test::Fail;
+
+const WORDS: [&str; 10] = [
+    "npd", "decode", "--db", "d", "--cap", "c", "--pdml", "p", "--psml", "s",
+];
+
+fn option<'a>(alloc: Global, name: &'a str) -> Arg<'a> {
+    Arg::new(alloc, name).long(name).action(ArgAction::Set)
+}
+
+/// `npd decode` with all of its options.
+fn command<'a>(alloc: Global) -> Result<Command<'a>, AllocError> {
+    let decode = Command::new(alloc, "decode")
+        .arg(option(alloc, "db").required(true))?
+        .arg(option(alloc, "cap").required(true))?
+        .arg(option(alloc, "pdml"))?
+        .arg(option(alloc, "psml"))?
+        .arg(option(alloc, "trace"))?
+        .arg(option(alloc, "report"))?
+        .arg(option(alloc, "workers"))?
+        .arg(option(alloc, "window"))?
+        .arg(option(alloc, "max-packets"))?;
+    Command::new(alloc, "npd").subcommand(decode)
+}
+
+/// Whether the plan of the words has the names that were found in them.
+fn has_names(alloc: Global, found: &ArgMatches<'_>) -> Result<bool, WordsFail> {
+    match plan_of(alloc, &WORDS[1..])? {
+        Plan::Decode {
+            db,
+            cap,
+            pdml: Some(pdml),
+            psml: Some(psml),
+            trace: None,
+            report: None,
+            ..
+        } => Ok(
+            found.get_str("db") == Some(db.as_str())
+                && found.get_str("cap") == Some(cap.as_str())
+                && found.get_str("pdml") == Some(pdml.as_str())
+                && found.get_str("psml") == Some(psml.as_str())
+                && !found.contains_id("trace")
+                && !found.contains_id("report"),
+        ),
+        _ => Ok(false),
+    }
+}
+
+#[test]
+fn another_reader_finds_the_same_names(rt: HostRuntime) -> Result<(), Fail> {
+    let alloc = rt.alloc();
+    let matches = command(alloc)?.try_get_matches_from(&WORDS)?;
+    let (name, decode) = matches.subcommand().ok_or("a subcommand")?;
+    assert!(rt; name == "decode");
+    let is_so = has_names(alloc, decode)?;
+    assert!(rt; is_so);
+    Ok(())
+}
