@@ -1,5 +1,5 @@
 -- A block includes itself exactly where its number leads back to itself.
-use Rattle.std.specs.Prelude.{◌≡◌, ℕ, zero, suc, ◌+◌, ◌<◌, nat_lt, Bool, true, false, not, ◌||◌, ◌&&◌, if◌then◌else◌, List, [], ◌∷◌, ◌++◌, map, length, drop, get_or, slice_get, bytes_eq, Option, Some}
+use Rattle.std.specs.Prelude.{◌≡◌, ℕ, zero, suc, ◌+◌, ◌<◌, nat_lt, Bool, true, false, not, ◌||◌, ◌&&◌, if◌then◌else◌, List, [], ◌∷◌, ◌++◌, map, length, drop, get_or, slice_get, bytes_eq, Option, Some, None}
 use Rattle.std.specs.List.{list_any}
 use Rattle.std.specs.Cmp.Lexicographic.{bytes_decides}
 use Rattle.std.proofs.Common.{refl, sym, ap, subst, ◌∙◌, arith, inl, inr}
@@ -17,7 +17,7 @@ use Rattle.db_model.specs.Numbering.{Counts, plus, a_block, counts_in, block_fro
 use Rattle.db_model.proofs.LeastFault.{earlier_assoc}
 use Rattle.db_laws.specs.Laws.{CyclesFound}
 use Rattle.db_check.specs.First.{first}
-use Rattle.db_check.specs.Graph.{Graph, numbers, targets, edges, IsOneOf, Leads, graph_of, leads_back, leads_here, cycles_from}
+use Rattle.db_check.specs.Graph.{Graph, comes_before, numbers, targets, edges, IsOneOf, Leads, graph_of, leads_back, leads_here, cycles_from}
 use Rattle.db_check.specs.Graph.Leads.{Once, Then}
 use Rattle.db_check.proofs.FirstFault.{first_append}
 use Rattle.db_check.proofs.Again.{place_next, lt_zero}
@@ -187,15 +187,21 @@ module _ (law : CyclesFound) (p : Protocol) where
 
 -- ---- the walk
 
-pub cycle_next : (g : Graph) (names : List Text) (bs : List NamedBlock) (i : ℕ) (b : NamedBlock) (wrong : Bool) (found one next whole : Option Fault) → i < length bs → b ≡ get_or bs i b → wrong ≡ leads_here g names i b.name → one ≡ first 45 (at_line b.line wrong) → next ≡ earlier found one
+pub found_stays : (found : Option Fault) (line : ℕ) (wrong : Bool) → comes_before found line ≡ true → found ≡ earlier found (first 45 (at_line line wrong))
+found_stays None line wrong h = (cc)
+found_stays (Some f) line false h = refl
+found_stays (Some f) line true h = ap (λ b. if b then Some f else Some (record { line = line; code = 45 })) (sym h)
+
+pub cycle_next : (g : Graph) (names : List Text) (bs : List NamedBlock) (i : ℕ) (b : NamedBlock) (found next whole : Option Fault) → i < length bs → b ≡ get_or bs i b → next ≡ earlier found (first 45 (at_line b.line (leads_here g names i b.name)))
     → earlier found (first 45 (cycles_from g names i (drop i bs))) ≡ whole → earlier next (first 45 (cycles_from g names (i + 1) (drop (i + 1) bs))) ≡ whole
-cycle_next g names bs i b wrong found one next whole h e w o n k =
+cycle_next g names bs i b found next whole h e n k =
     let more : suc i ≡ i + 1 = omega arith in
+    let own : Lines = at_line b.line (leads_here g names i b.name) in
     let rest : Lines = cycles_from g names (i + 1) (drop (i + 1) bs) in
-    let here : cycles_from g names i (drop i bs) ≡ at_line b.line wrong ++ rest =
+    let here : cycles_from g names i (drop i bs) ≡ own ++ rest =
     at_drop_more (cycles_from g names i) bs i b h
     ∙ (ap (λ (y : NamedBlock). cycles_from g names i (y ∷ drop (i + 1) bs)) (sym e)
-    ∙ (λ j. at_line b.line (sym w j) ++ cycles_from g names (more j) (drop (i + 1) bs))) in
-    ap (λ a. earlier a (first 45 rest)) (n ∙ ap (earlier found) o)
-    ∙ (earlier_assoc found (first 45 (at_line b.line wrong)) (first 45 rest)
-    ∙ (ap (earlier found) (sym (ap (first 45) here ∙ first_append 45 (at_line b.line wrong) rest)) ∙ k))
+    ∙ (λ j. own ++ cycles_from g names (more j) (drop (i + 1) bs))) in
+    ap (λ a. earlier a (first 45 rest)) n
+    ∙ (earlier_assoc found (first 45 own) (first 45 rest)
+    ∙ (ap (earlier found) (sym (ap (first 45) here ∙ first_append 45 own rest)) ∙ k))

@@ -4,7 +4,9 @@ use Rattle.db_model.specs.declared.database.NamedBlock.{NamedBlock}
 use Rattle.db_model.specs.declared.database.Protocol.{Protocol}
 use Rattle.db_model.specs.declared.element.Branch.{Branch}
 use Rattle.db_model.specs.declared.element.Case.{Case}
+use Rattle.db_model.specs.declared.fault.Fault.{Fault}
 use Rattle.db_model.specs.BlockFaults.{includes_in}
+use Rattle.db_model.specs.LeastFault.{comes_first}
 use Rattle.db_model.specs.Lines.{Lines, at_line}
 use Rattle.db_model.specs.NameFaults.{block_names}
 use Rattle.db_model.specs.Names.{Text, place}
@@ -85,3 +87,8 @@ leads_here g names i name = not (nat_lt (place name names) i) && leads_back g (l
 abbrev pub cycles_from : Graph → List Text → ℕ → List NamedBlock → Lines
 cycles_from g names i [] = []
 cycles_from g names i (b ∷ bs) = at_line b.line (leads_here g names i b.name) ++ cycles_from g names (suc i) bs
+
+-- what was found comes before a fault at a line
+abbrev pub comes_before : Option Fault → ℕ → Bool
+comes_before None line = false
+comes_before (Some f) line = comes_first f (record { line = line; code = 45 })

@@ -2,9 +2,11 @@
 
 ghost use Rattle.std.specs.Prelude.{◌≡◌, ◌++◌, OnOk, IfOk};
 ghost use Rattle.db_model.specs.BlockFaults.{includes_of, includes_in, protocol_45};
+ghost use Rattle.db_model.specs.LeastFault.{earlier};
+ghost use Rattle.db_model.specs.Lines.{at_line};
 ghost use Rattle.db_model.specs.NameFaults.{block_names};
 ghost use Rattle.db_check.specs.First.{first};
-ghost use Rattle.db_check.specs.Graph.{numbers, includes_of_cases, includes_of_other, graph_of, leads_here, cycles_from};
+ghost use Rattle.db_check.specs.Graph.{numbers, includes_of_cases, includes_of_other, graph_of, leads_here, cycles_from, comes_before};
 ghost use Rattle.db_check.specs.Home.{IsHome};
 
 use crate::first::at_line;
@@ -131,6 +133,36 @@ fn leads_here(
     leads_back(alloc, graph, number)
 }
 
+/// Whether what was found comes before a fault of this kind at a line.
+fn comes_before(found: Option<Fault>, line: u32) -> bool
+    ensures { result ≡ comes_before found line }
+{
+    match found {
+        None => false,
+        Some(fault) => fault.line < line || fault.line == line && fault.code <= 45,
+    }
+}
+
+/// What was found, or the fault of a block, whichever comes first. A block whose fault wouldn't isn't searched.
+#[tactic(auto, using(crate::proofs::Including::found_stays))]
+fn with_block(
+    alloc: Global,
+    graph: &Graph,
+    number: usize,
+    block: &NamedBlock,
+    home: &Home,
+    found: Option<Fault>,
+) -> Result<Option<Fault>, NoMemory>
+    requires { IsHome home.now }
+    ensures { IfOk result (λ f. f ≡ earlier found (first 45 (at_line block.now.line (leads_here graph.now (block_names home.now.protocol.now) number block.now.name)))) }
+{
+    if comes_before(found, block.line) {
+        return Ok(found);
+    }
+    let wrong = leads_here(alloc, graph, number, &block.name, home)?;
+    Ok(Fault::earlier(found, at_line(block.line, 45, wrong)))
+}
+
 fn in_graph(
     alloc: Global,
     graph: &Graph,
@@ -142,8 +174,7 @@ fn in_graph(
 {
     let mut found = None;
     for (number, block) in blocks.iter().enumerate() {
-        let wrong = leads_here(alloc, graph, number, &block.name, home)?;
-        found = Fault::earlier(found, at_line(block.line, 45, wrong));
+        found = with_block(alloc, graph, number, block, home, found)?;
     }
     Ok(found)
 }
