@@ -1,0 +1,6 @@
+pub mod Filled
+pub mod Parts
+pub mod Renewals
+pub mod Sound
+pub mod Widths
+pub mod Zips
