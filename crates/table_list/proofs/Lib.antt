@@ -2,5 +2,6 @@ pub mod Filled
 pub mod Parts
 pub mod Renewals
 pub mod Sound
+pub mod Walks
 pub mod Widths
 pub mod Zips

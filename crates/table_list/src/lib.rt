@@ -11,7 +11,7 @@ mod declaration;
 mod entry;
 mod list_table;
 mod lists;
-mod part;
+mod putting;
 mod room;
 mod search;
 mod space;

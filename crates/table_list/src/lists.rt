@@ -1,8 +1,7 @@
-ghost use Rattle.std.specs.Prelude.{◌≡◌, ℕ, ◌+◌, ◌<◌, Some, None, IfOk, IfSome, IsSome, OnOk, slice_get, slice_set, vec_len, vec_capacity};
+ghost use Rattle.std.specs.Prelude.{◌≡◌, ℕ, ◌+◌, ◌<◌, true, Some, IfOk, IfSome, IsSome, OnOk};
 ghost use Rattle.db_model.specs.Fitting.{table_fits};
 ghost use Rattle.db_model.specs.Kept.{Kept};
 ghost use Rattle.db_model.specs.Table.{empty, matching_entry, put, renewed_by};
-ghost use Rattle.db_model.specs.declared.entry.Entry.{Entry};
 ghost use Rattle.table_list.specs.Lists.{content, HasRoom, part, appended, replaced};
 ghost use Rattle.table_list.specs.Search.{entry_at_place, entry_hit};
 ghost use Rattle.table_list.specs.Space.{HoldsKeys, HoldsRow};
@@ -11,7 +10,7 @@ use crate::blank::Blank;
 use crate::deadline::after_seconds;
 use crate::entry::added_on_hit;
 use crate::search::Place;
-use crate::{part, search};
+use crate::{putting, search};
 use db_model::{Entry, Keys, NoMemory, STAMP_END, Stamp, TableDecl, Validity};
 use std::alloc::Global;
 
@@ -36,8 +35,8 @@ impl Lists {
         ensures { IfOk result (λ l. content l ≡ content self.now) }
     {
         Ok(Lists {
-            exact: part::copied(alloc, &self.exact)?,
-            masked: part::copied(alloc, &self.masked)?,
+            exact: putting::copied(alloc, &self.exact)?,
+            masked: putting::copied(alloc, &self.masked)?,
         })
     }
 
@@ -56,7 +55,11 @@ impl Lists {
     pub fn part(&self, masked: bool) -> &[Entry]
         ensures { result.now ≡ part masked (content self.now) }
     {
-        if masked { &self.masked } else { &self.exact }
+        if masked {
+            self.masked.as_slice()
+        } else {
+            self.exact.as_slice()
+        }
     }
 
     /// The entry at a place.
@@ -76,7 +79,10 @@ impl Lists {
     {
         match search::live_exact(&self.exact, keys, t) {
             Some(at) => Some(Place::Exact(at)),
-            None => search::first_match(&self.masked, keys, t).map(Place::Masked),
+            None => match search::first_match(&self.masked, keys, t) {
+                Some(at) => Some(Place::Masked(at)),
+                None => None,
+            },
         }
     }
 
@@ -101,9 +107,9 @@ impl Lists {
         ensures room { (n : ℕ) → HasRoom (n + 1) self.old → HasRoom n self.new }
     {
         if entry.masks.is_some() {
-            part::put(&mut self.masked, declaration.mask_entries, entry);
+            putting::put(&mut self.masked, declaration.mask_entries, entry);
         } else {
-            part::put(&mut self.exact, declaration.exact_entries, entry);
+            putting::put(&mut self.exact, declaration.exact_entries, entry);
         }
     }
 
@@ -130,8 +136,14 @@ impl Lists {
         let entry = self.entry(place);
         match entry.validity {
             Validity::Forever | Validity::MaxTime => {}
-            Validity::UpdateOnHit => self.set_deadline(place, after_seconds(t, entry.hit)),
-            Validity::AddOnHit => self.put(declaration, added_on_hit(blank, keys, entry, t)),
+            Validity::UpdateOnHit => {
+                let deadline = after_seconds(t, entry.hit);
+                self.set_deadline(place, deadline);
+            }
+            Validity::AddOnHit => {
+                let added = added_on_hit(blank, keys, entry, t);
+                self.put(declaration, added);
+            }
         }
     }
 

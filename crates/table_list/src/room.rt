@@ -1,4 +1,4 @@
-ghost use Rattle.std.specs.Prelude.{◌≡◌, ◌+◌, ◌<◌, ◌≤◌, Some, length, IfOk, IfSome};
+ghost use Rattle.std.specs.Prelude.{◌≡◌, ◌+◌, ◌<◌, ◌≤◌, Some, IfOk, IfSome};
 ghost use Rattle.db_model.specs.Table.{masked_by};
 ghost use Rattle.table_list.specs.Space.{HoldsKeys, HoldsRow, IsShort};
 

@@ -1,4 +1,4 @@
-ghost use Rattle.std.specs.Prelude.{◌≡◌, ℕ, ◌≤◌, length, map, max};
+ghost use Rattle.std.specs.Prelude.{◌≡◌, map};
 ghost use Rattle.table_list.specs.Space.{widest, column_width, key_space, row_space};
 
 use db_model::{ColumnDecl, KeyDecl, MOST_BYTES, TableDecl, Ty};
