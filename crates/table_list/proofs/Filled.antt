@@ -2,7 +2,7 @@
 use Rattle.std.specs.Prelude.{◌≡◌, ℕ, zero, suc, ◌+◌, ◌<◌, ◌≤◌, ◌⊎◌, Bool, true, false, ◌&&◌, ◌||◌, nat_le, List, [], ◌∷◌, ◌++◌, length, slice_get, Option, Some, None}
 use Rattle.std.proofs.Common.{refl, sym, ap, subst, ◌∙◌, arith, inl, inr}
 use Rattle.std.specs.List.{list_any, list_all}
-use Rattle.std.proofs.lemmas.Bool.Decides.{Decides-leb}
+use Rattle.std.proofs.lemmas.Bool.{le-leb}
 use Rattle.std.proofs.lemmas.List.{length_push}
 use Rattle.std.proofs.lemmas.List.Folds.{list_all-append}
 use Rattle.db_model.specs.declared.database.TableDecl.{TableDecl}
@@ -27,7 +27,7 @@ all_pushed : (p : Entry → Bool) (es : List Entry) (e : Entry) → list_all p e
 all_pushed p es e h k = list_all-append p es (e ∷ []) ∙ both (list_all p es) (p e && true) h (both (p e) true k refl)
 
 room_pushed : (es : List Entry) (e : Entry) (most : ℕ) → length es < most → nat_le (length (es ++ e ∷ [])) most ≡ true
-room_pushed es e most h = (Decides-leb (length (es ++ e ∷ [])) most).1 (omega (arith, length_push es e, h))
+room_pushed es e most h = le-leb (length (es ++ e ∷ [])) most (omega (arith, length_push es e, h))
 
 pub filled_fits : (masked : Bool) (d : TableDecl) (t : Parts) (e : Entry) → table_fits d t ≡ true → length (part masked t) < limit masked d → part_fits masked d e ≡ true → table_fits d (appended masked e t) ≡ true
 unfolding table_fits

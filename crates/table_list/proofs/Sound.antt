@@ -1,9 +1,9 @@
 -- What a table keeps, after a call that took the memory for one.
-use Rattle.std.specs.Prelude.{◌≡◌, ℕ, ◌+◌, ◌<◌, ◌≤◌, Bool, true, false, if◌then◌else◌, List, [], ◌∷◌, ◌++◌, length, Option, Some, None}
+use Rattle.std.specs.Prelude.{◌≡◌, ℕ, ◌+◌, ◌<◌, ◌≤◌, Bool, true, false, ◌&&◌, nat_le, if◌then◌else◌, List, [], ◌∷◌, ◌++◌, length, Option, Some, None}
 use Rattle.std.proofs.Common.{refl, sym, ap, subst, ◌∙◌, arith}
 use Rattle.std.specs.List.{All}
 use Rattle.std.proofs.lemmas.List.{length_push}
-use Rattle.std.proofs.lemmas.List.Elements.{All-pop}
+use Rattle.std.proofs.lemmas.List.Elements.{All-pop, All-nil}
 use Rattle.db_laws.specs.Laws.{TableFits}
 use Rattle.db_model.specs.declared.database.TableDecl.{TableDecl}
 use Rattle.db_model.specs.declared.entry.Entry.{Entry}
@@ -12,12 +12,14 @@ use Rattle.db_model.specs.declared.question.Answer.{Answer}
 use Rattle.db_model.specs.declared.question.Answer.TheVariants.{Miss, Hit}
 use Rattle.db_model.specs.Fitting.{table_fits, look_fits, row_fits, hit_fits}
 use Rattle.db_model.specs.Kept.{Kept}
-use Rattle.db_model.specs.Table.{Parts, KeyList, look, answered, matching_entry, renewed_by}
+use Rattle.db_model.specs.Table.{Parts, KeyList, empty, look, answered, matching_entry, renewed_by}
 use Rattle.table_list.specs.declared.blank.Ready.{Ready}
 use Rattle.table_list.specs.declared.lists.Lists.{Lists}
 use Rattle.table_list.specs.declared.space.Space.{Space}
 use Rattle.table_list.specs.Lists.{content, HasRoom, IsSound}
 use Rattle.table_list.specs.Ready.{ready}
+use Rattle.table_list.specs.Space.{key_space, row_space}
+use Rattle.std.proofs.lemmas.Bool.{le-leb}
 
 -- the last one was as each is, and the others go on to be
 pub taken : {X : Type 0} (P : X → Type 0) (rs ss : List X) (r : X) → rs ≡ ss ++ r ∷ [] → All P rs → P r × All P ss
@@ -58,3 +60,22 @@ hit d t keys renew now e p = ap (answered d t keys renew now) p
 -- the row of what it hits fits
 pub hit_row : (law : TableFits) (d : TableDecl) (t : Parts) (keys : KeyList) (renew : Bool) (now : ℕ) (e : Entry) → table_fits d t ≡ true → look_fits d keys ≡ true → now < STAMP_END → matching_entry t keys now ≡ Some e → row_fits d.columns e.row ≡ true
 hit_row law d t keys renew now e f k s p = subst (λ (a : Answer × Parts). hit_fits d a.0 ≡ true) (hit d t keys renew now e p) (law.looked d t keys renew now f k s).0
+
+-- ---- a table to which nothing was added
+
+empty_fits : (d : TableDecl) → table_fits d empty ≡ true
+unfolding table_fits
+empty_fits d = ap (λ (b : Bool). (b && true) && (nat_le 0 d.mask_entries && true)) (le-leb 0 d.exact_entries (omega arith)) ∙ ap (λ (b : Bool). b && true) (le-leb 0 d.mask_entries (omega arith))
+
+empty_kept : (d : TableDecl) → Kept d empty
+empty_kept d = record { exact_apart = λ i j x y p q k m. (cc); masked_apart = λ i j x y p q k m. (cc); exact_room = omega arith; masked_room = omega arith }
+
+pub sound_new : (d e : TableDecl) (keys row : Space) (l : Lists) (rs : List Ready) → e ≡ d → keys ≡ key_space d → row ≡ row_space d → content l ≡ empty → HasRoom 0 l → rs ≡ [] → IsSound e keys row l rs
+sound_new d e keys row l rs p k r c h n = record {
+  keys_space = k ∙ ap key_space (sym p);
+  row_space = r ∙ ap row_space (sym p);
+  fits = ap (λ t. table_fits e t) c ∙ empty_fits e;
+  kept = subst (λ t. Kept e t) (sym c) (empty_kept e);
+  ready = subst (λ (xs : List Ready). All (λ x. x ≡ ready keys row) xs) (sym n) (All-nil (λ (x : Ready). x ≡ ready keys row));
+  room = subst (λ (xs : List Ready). HasRoom (length xs) l) (sym n) h;
+}

@@ -5,7 +5,7 @@ use Rattle.std.specs.Option.{option_eq}
 use Rattle.std.proofs.lemmas.List.{drop_more, drop_all, take_more, take_all, append_assoc, append-nil}
 use Rattle.std.proofs.lemmas.Option.{slice_get_read}
 use Rattle.db_model.specs.declared.entry.Entry.{Entry}
-use Rattle.db_model.specs.Table.{sooner, soonest, evict}
+use Rattle.db_model.specs.Table.{live, if_live, sooner, soonest, evict}
 
 -- the list from a place on, whose first element was read
 pub rest_at : {X : Type 0} (xs : List X) (i : ℕ) (x : X) → i < length xs → x ≡ get_or xs i x → drop i xs ≡ x ∷ drop (i + 1) xs
@@ -27,6 +27,13 @@ module _ {X : Type 0} (p : X → Bool) where
 
   pub find_end : (xs : List X) (i : ℕ) (o : Option X) → length xs ≤ i → find p (drop i xs) ≡ o → None ≡ o
   find_end xs i o h e = sym (ap (find p) (drop_all i xs h)) ∙ e
+
+-- the first that passes, where it lives
+pub live_here : (p : Entry → Bool) (t : ℕ) (xs : List Entry) (i : ℕ) (e : Entry) (o : Option Entry) → i < length xs → e ≡ get_or xs i e → p e ≡ true → find p (drop i xs) ≡ o → live e t ≡ true → slice_get xs i ≡ if_live t o
+live_here p t xs i e o h g k f l =
+    let s : slice_get xs i ≡ Some e = slice_get_read xs (length xs) i e refl h g in
+    let r : o ≡ Some e = sym (find_here p xs i e o h g k f) ∙ s in
+    s ∙ sym (ap (λ (b : Bool). if b then Some e else None) l) ∙ ap (if_live t) (sym r)
 
 -- ---- the least deadline
 

@@ -3,7 +3,8 @@ use Rattle.std.specs.Prelude.{◌≡◌, ℕ, zero, suc, min, max, ◌+◌, ◌<
 use Rattle.std.proofs.Common.{refl, sym, ap, subst, ◌∙◌, arith, get_or, drop}
 use Rattle.std.proofs.lemmas.List.{drop_more, drop_all, at_drop_more}
 use Rattle.std.proofs.lemmas.List.Elements.{All-nil, All-cons, All-weaker}
-use Rattle.std.proofs.lemmas.Bool.Decides.{Decides-eqb, Decides-leb}
+use Rattle.std.proofs.lemmas.Bool.Decides.{Decides-eqb}
+use Rattle.std.proofs.lemmas.Bool.{leb-true}
 use Rattle.std.specs.List.{All}
 use Rattle.db_model.specs.declared.bytes.TheConstants.{MOST_BYTES}
 use Rattle.db_model.specs.declared.database.ColumnDecl.{ColumnDecl}
@@ -66,7 +67,7 @@ value_short ty.Num size (value.Buf b) h k = (cc)
 value_short ty.Num size (value.Proto p) h k = (cc)
 value_short ty.Buf size (value.Num n) h k = (cc)
 value_short ty.Buf None (value.Buf b) h k = omega arith
-value_short ty.Buf (Some s) (value.Buf b) h k = let m : length b ≤ s = (Decides-leb (length b) s).0 k in omega arith
+value_short ty.Buf (Some s) (value.Buf b) h k = let m : length b ≤ s = leb-true (length b) s k in omega arith
 value_short ty.Buf size (value.Proto p) h k = (cc)
 value_short ty.Proto size (value.Num n) h k = (cc)
 value_short ty.Proto size (value.Buf b) h k = (cc)

@@ -1,8 +1,8 @@
-ghost use Rattle.std.specs.Prelude.{◌≡◌, ◌+◌, ◌<◌, ◌≤◌, length, IfOk};
+ghost use Rattle.std.specs.Prelude.{◌≡◌, ◌+◌, ◌<◌, ◌≤◌, min, length, IfOk};
 ghost use Rattle.db_model.specs.Table.{masked};
 
 use crate::space::Space;
-use db_model::{Bytes, NoMemory};
+use db_model::{Bytes, MOST_BYTES, NoMemory};
 use std::alloc::Global;
 use std::marker::Model;
 
@@ -33,7 +33,7 @@ impl Buffer {
 
     /// The value in this memory.
     pub fn filled(self, value: &Bytes) -> Bytes
-        requires { length value.now ≤ self }
+        requires { min (length value.now) MOST_BYTES ≤ self }
         ensures { result ≡ value.now }
     {
         let Buffer { mut bytes } = self;

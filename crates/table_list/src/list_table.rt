@@ -75,7 +75,7 @@ impl ListTable {
         ensures entry { IfOk result (λ e. e ≡ slice_get (part masked self.now.content) at) }
         ensures fits { IfOk result (λ e. IfSome e (λ x. part_fits masked self.now.declaration x ≡ true)) }
     {
-        match self.lists.part(masked).get(at as usize) {
+        match sqlite_items::at(self.lists.part(masked), at as usize) {
             Some(found) => Ok(Some(entry::copied(found)?)),
             None => Ok(None),
         }

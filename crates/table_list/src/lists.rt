@@ -23,7 +23,8 @@ pub struct Lists {
 
 impl Lists {
     pub fn new(alloc: Global) -> Lists
-        ensures { content result ≡ empty }
+        ensures content { content result ≡ empty }
+        ensures room { HasRoom 0 result }
     {
         Lists {
             exact: Vec::new(alloc),
@@ -32,7 +33,8 @@ impl Lists {
     }
 
     pub fn copied(&self, alloc: Global) -> Result<Lists, NoMemory>
-        ensures { IfOk result (λ l. content l ≡ content self.now) }
+        ensures content { IfOk result (λ l. content l ≡ content self.now) }
+        ensures room { IfOk result (HasRoom 0) }
     {
         Ok(Lists {
             exact: putting::copied(alloc, &self.exact)?,

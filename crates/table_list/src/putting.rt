@@ -1,4 +1,4 @@
-ghost use Rattle.std.specs.Prelude.{◌≡◌, ◌+◌, ◌<◌, ◌≤◌, ◌×◌, ◌++◌, ◌∷◌, [], if◌then◌else◌, nat_lt, remove, length, vec_len, vec_capacity, IfOk, MatchOption};
+ghost use Rattle.std.specs.Prelude.{◌≡◌, ◌+◌, ◌<◌, ◌≤◌, ◌++◌, ◌∷◌, [], if◌then◌else◌, nat_lt, remove, length, vec_len, vec_capacity, IfOk, MatchOption};
 ghost use Rattle.db_model.specs.Kept.{IsApart};
 ghost use Rattle.db_model.specs.Table.{evict, put_in, put_in_full, soonest};
 

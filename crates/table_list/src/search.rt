@@ -1,4 +1,4 @@
-ghost use Rattle.std.specs.Prelude.{◌≡◌, ◌&&◌, Some, bytes_eq, find};
+ghost use Rattle.std.specs.Prelude.{◌≡◌, ◌<◌, ◌&&◌, Some, IfSome, bytes_eq, find, length};
 ghost use Rattle.db_model.specs.Table.{if_live, live, masked, masked_by, matches, same_keys, same_place, sooner, soonest};
 ghost use Rattle.table_list.specs.Search.{entry_of};
 
@@ -14,7 +14,8 @@ pub enum Place {
 
 /// The exact entry with these keys, if it lives at the moment.
 pub fn live_exact(exact: &[Entry], keys: &Keys, t: Stamp) -> Option<usize>
-    ensures { entry_of exact.now result ≡ if_live t (find (λ e. same_keys keys.now e.keys) exact.now) }
+    ensures within { IfSome result (λ i. i < length exact.now) }
+    ensures entry { entry_of exact.now result ≡ if_live t (find (λ e. same_keys keys.now e.keys) exact.now) }
 {
     for (i, entry) in exact.iter().enumerate() {
         if *keys == entry.keys {
@@ -26,7 +27,8 @@ pub fn live_exact(exact: &[Entry], keys: &Keys, t: Stamp) -> Option<usize>
 
 /// The first masked entry that lives at the moment and matches.
 pub fn first_match(masked: &[Entry], keys: &Keys, t: Stamp) -> Option<usize>
-    ensures { entry_of masked.now result ≡ find (λ e. live e t && matches e keys.now) masked.now }
+    ensures within { IfSome result (λ i. i < length masked.now) }
+    ensures entry { entry_of masked.now result ≡ find (λ e. live e t && matches e keys.now) masked.now }
 {
     for (i, entry) in masked.iter().enumerate() {
         if is_live(entry, t) && is_match(entry, keys) {
@@ -38,7 +40,8 @@ pub fn first_match(masked: &[Entry], keys: &Keys, t: Stamp) -> Option<usize>
 
 /// The place of the entry with the keys and the masks of this one.
 pub fn same_place(part: &[Entry], entry: &Entry) -> Option<usize>
-    ensures { entry_of part.now result ≡ find (same_place entry.now) part.now }
+    ensures within { IfSome result (λ i. i < length part.now) }
+    ensures entry { entry_of part.now result ≡ find (same_place entry.now) part.now }
 {
     for (i, other) in part.iter().enumerate() {
         if entry.keys == other.keys && entry.masks == other.masks {

@@ -1,5 +1,5 @@
 use Rattle.std.proofs.Common.{◌≡◌, ◌≤◌, ◌+◌, length, take, vec_len, vec_capacity}
-use Rattle.table_list.proofs.room.Room.filled.Given as goal
+use Rattle.table_list.proofs.room.Room+Bytes.filled.Given as goal
 
 abbrev pub invariant-loop-key : goal.invariant-loop-key
 invariant-loop-key l = record {

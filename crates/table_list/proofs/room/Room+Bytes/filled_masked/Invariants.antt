@@ -1,7 +1,7 @@
 use Rattle.std.proofs.Common.{◌≡◌, ◌≤◌, ◌+◌, ◌++◌, length, map, drop, vec_len, vec_capacity, Some}
 use Rattle.std.specs.Prelude.{zip}
 use Rattle.db_model.specs.Table.{masked, masked_by}
-use Rattle.table_list.proofs.room.Room.filled_masked.Given as goal
+use Rattle.table_list.proofs.room.Room+Bytes.filled_masked.Given as goal
 
 abbrev pub invariant-loop-i : goal.invariant-loop-i
 invariant-loop-i l = record {

@@ -1,5 +1,5 @@
 use Rattle.std.proofs.Common.{◌≡◌, ◌≤◌, ◌+◌, length, take, vec_len, vec_capacity}
-use Rattle.table_list.proofs.room.Room.filled_row.Given as goal
+use Rattle.table_list.proofs.room.Room+Value.filled_row.Given as goal
 
 abbrev pub invariant-loop-value : goal.invariant-loop-value
 invariant-loop-value l = record {
