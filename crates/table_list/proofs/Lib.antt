@@ -1,4 +1,5 @@
 pub mod Filled
+pub mod Held
 pub mod Parts
 pub mod Renewals
 pub mod Sound

@@ -9,7 +9,8 @@ use Rattle.db_model.specs.declared.entry.Entry.{Entry}
 use Rattle.db_model.specs.Kept.{IsApart}
 use Rattle.std.proofs.lemmas.Option.{none-some, slice_get-get_or}
 use Rattle.db_model.specs.declared.database.TableDecl.{TableDecl}
-use Rattle.db_model.specs.Table.{Parts, KeyList, same_keys, same_place, replace, put, put_by, put_in, put_in_full, soonest}
+use Rattle.db_model.specs.Table.{Parts, KeyList, same_keys, same_place, replace, put, put_by, put_in, put_in_full, soonest, add, entry_at}
+use Rattle.db_model.specs.declared.entry.NewEntry.{NewEntry}
 
 keys_decide : (a b : KeyList) → Decides (same_keys a b) (a ≡ b)
 keys_decide = pointwise_decides bytes_decides
@@ -95,3 +96,10 @@ put_exact d t e h = by e.masks refl
     by : (o : Option KeyList) → e.masks ≡ o → record t { exact = put_in d.exact_entries e t.exact } ≡ put_by o d t e
     by None m = refl
     by (Some masks) m = let f : true ≡ false = sym (ap (λ (o : Option KeyList). is_some o) m) ∙ h in (cc)
+
+abbrev pub parts : List Entry → List Entry → Parts
+parts exact masked = record { exact = exact; masked = masked }
+
+pub add_is : (d : TableDecl) (t : Parts) (n : NewEntry) (now : ℕ) → put d t (entry_at n now) ≡ add d t n now
+unfolding add
+add_is d t n now = refl

@@ -7,7 +7,8 @@ use Rattle.db_model.specs.declared.entry.Entry.{Entry}
 use Rattle.db_model.specs.Expression.{key_sizes}
 use Rattle.db_model.specs.Fitting.{exact_fits, masked_fits, entry_fits, table_fits}
 use Rattle.db_model.specs.Kept.{IsApart, Kept}
-use Rattle.db_model.specs.Table.{Parts, KeyList, put, put_by, same_keys, masked_by}
+use Rattle.db_model.specs.Table.{Parts, KeyList, put, put_by, same_keys, masked_by, renewed_by, after_seconds}
+use Rattle.db_model.specs.declared.entry.Validity.TheVariants.{UpdateOnHit}
 use Rattle.table_list.specs.declared.search.Place.{Place}
 use Rattle.table_list.specs.declared.search.Place.TheVariants.{Exact, Masked}
 use Rattle.table_list.specs.Lists.{part, part_fits, replaced}
@@ -47,3 +48,10 @@ renewed_in_place d t (Exact at) e x h k g =
     sym (put_exact d t e at x k.exact_apart g e.masks refl (two (not (is_some e.masks)) (entry_fits d e) (fits_there d t false at e h g)).0)
 renewed_in_place d t (Masked at) e x h k g =
     sym (put_masked d t e at x k.masked_apart g e.masks refl (two (is_some e.masks) (same_keys (masked_by e.masks e.keys) e.keys && entry_fits d e) (fits_there d t true at e h g)).0)
+
+-- a renewing hit on an entry of the kind updateonhit, and one of the kind addonhit
+pub renewed : (d : TableDecl) (t u : Parts) (place : Place) (e : Entry) (keys : KeyList) (now x : ℕ) → table_fits d t ≡ true → Kept d t → entry_at_place t place ≡ Some e → e.validity ≡ UpdateOnHit → x ≡ after_seconds now e.hit → u ≡ replaced place (record e { deadline = Some x }) t → u ≡ renewed_by e.validity d t keys now e
+renewed d t u place e keys now x h k g v p q =
+    q ∙ renewed_in_place d t place e (Some x) h k g
+    ∙ ap (λ (y : ℕ). put d t (record e { deadline = Some y })) p
+    ∙ ap (λ w. renewed_by w d t keys now e) (sym v)

@@ -3,7 +3,7 @@ use Rattle.std.specs.Prelude.{◌≡◌, ℕ, ◌+◌, ◌<◌, ◌≤◌, Bool,
 use Rattle.std.proofs.Common.{refl, sym, ap, subst, ◌∙◌, arith}
 use Rattle.std.specs.List.{All}
 use Rattle.std.proofs.lemmas.List.{length_push}
-use Rattle.std.proofs.lemmas.List.Elements.{All-pop, All-nil}
+use Rattle.std.proofs.lemmas.List.Elements.{All-pop, All-nil, All-append}
 use Rattle.db_laws.specs.Laws.{TableFits}
 use Rattle.db_model.specs.declared.database.TableDecl.{TableDecl}
 use Rattle.db_model.specs.declared.entry.Entry.{Entry}
@@ -78,4 +78,26 @@ sound_new d e keys row l rs p k r c h n = record {
   kept = subst (λ t. Kept e t) (sym c) (empty_kept e);
   ready = subst (λ (xs : List Ready). All (λ x. x ≡ ready keys row) xs) (sym n) (All-nil (λ (x : Ready). x ≡ ready keys row));
   room = subst (λ (xs : List Ready). HasRoom (length xs) l) (sym n) h;
+}
+
+-- ---- more room
+
+pub sound_lists : (d : TableDecl) (keys row : Space) (l m : Lists) (rs : List Ready) → IsSound d keys row l rs → content m ≡ content l → ((n : ℕ) → HasRoom n l → HasRoom n m) → IsSound d keys row m rs
+sound_lists d keys row l m rs h c g = record {
+  keys_space = h.keys_space;
+  row_space = h.row_space;
+  fits = ap (λ t. table_fits d t) c ∙ h.fits;
+  kept = subst (λ t. Kept d t) (sym c) h.kept;
+  ready = h.ready;
+  room = g (length rs) h.room;
+}
+
+pub sound_more : (d : TableDecl) (keys row : Space) (l m : Lists) (rs ms qs : List Ready) → IsSound d keys row l rs → content m ≡ content l → All (λ r. r ≡ ready keys row) ms → qs ≡ rs ++ ms → HasRoom (length qs) m → IsSound d keys row m qs
+sound_more d keys row l m rs ms qs h c a e g = record {
+  keys_space = h.keys_space;
+  row_space = h.row_space;
+  fits = ap (λ t. table_fits d t) c ∙ h.fits;
+  kept = subst (λ t. Kept d t) (sym c) h.kept;
+  ready = subst (λ (xs : List Ready). All (λ x. x ≡ ready keys row) xs) (sym e) (All-append (λ (x : Ready). x ≡ ready keys row) rs ms h.ready a);
+  room = g;
 }

@@ -1,6 +1,6 @@
 -- Walks along the entries of a part.
-use Rattle.std.specs.Prelude.{◌≡◌, ℕ, zero, suc, min, ◌+◌, ◌<◌, ◌≤◌, Bool, true, false, if◌then◌else◌, ◌==◌, List, [], ◌∷◌, ◌++◌, length, slice_get, find, remove, Option, Some, None}
-use Rattle.std.proofs.Common.{refl, sym, ap, subst, ◌∙◌, arith, get_or, drop, take, add-one}
+use Rattle.std.specs.Prelude.{◌≡◌, ℕ, zero, suc, min, ◌+◌, ◌<◌, ◌≤◌, Bool, true, false, if◌then◌else◌, ◌==◌, List, [], ◌∷◌, ◌++◌, length, slice_get, find, remove, IsSome, Option, Some, None}
+use Rattle.std.proofs.Common.{refl, sym, ap, subst, ◌∙◌, arith, get_or, drop, take, add-one, rules}
 use Rattle.std.specs.Option.{option_eq}
 use Rattle.std.proofs.lemmas.List.{drop_more, drop_all, take_more, take_all, append_assoc, append-nil}
 use Rattle.std.proofs.lemmas.Option.{slice_get_read}
@@ -75,3 +75,9 @@ module _ (t : ℕ) where
 
   pub evict_end : (es : List Entry) (i : ℕ) (all : List Entry) → length es ≤ i → take i es ++ evict t (drop i es) ≡ all → all ≡ es
   evict_end es i all h p = sym p ∙ ap (λ l. take i es ++ evict t l) (drop_all i es h) ∙ append-nil (take i es) ∙ take_all i es h
+
+-- a number within a list has an element
+pub there_within : {X : Type 0} (xs : List X) (i : ℕ) → i < length xs → IsSome (slice_get xs i)
+there_within [] i h = absurd (omega (arith, h))
+there_within (x ∷ xs) zero h = search rules
+there_within (x ∷ xs) (suc i) h = there_within xs i (omega (arith, h))

@@ -76,8 +76,10 @@ impl Lists {
     }
 
     /// The exact entry with these keys, if it lives at the moment, else the first masked one that lives and matches.
+    #[tactic(auto, using(crate::proofs::Walks::there_within))]
     pub fn matching_entry(&self, keys: &Keys, t: Stamp) -> Option<Place>
-        ensures { entry_hit (content self.now) result ≡ matching_entry (content self.now) keys.now t }
+        ensures there { IfSome result (λ p. IsSome (entry_at_place (content self.now) p)) }
+        ensures entry { entry_hit (content self.now) result ≡ matching_entry (content self.now) keys.now t }
     {
         match search::live_exact(&self.exact, keys, t) {
             Some(at) => Some(Place::Exact(at)),
