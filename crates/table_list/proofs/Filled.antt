@@ -71,11 +71,11 @@ apart_pushed es e h n i j x y p q k m =
       | inl a ↦ elim (pushed_at es e y j q) [
         | inl b ↦ h i j x y a b k m
         | inr b ↦ absurd (never (list_any (same_place e) es) (there e x es i a (ap (λ (z : Entry). z.keys) b.1 ∙ sym k) (ap (λ (z : Entry). z.masks) b.1 ∙ sym m)) n)
-        ]
+      ]
       | inr a ↦ elim (pushed_at es e y j q) [
         | inl b ↦ absurd (never (list_any (same_place e) es) (there e y es j b (ap (λ (z : Entry). z.keys) a.1 ∙ k) (ap (λ (z : Entry). z.masks) a.1 ∙ m)) n)
         | inr b ↦ a.0 ∙ sym b.0
-        ]
+      ]
     ]
 
 pub filled_kept : (masked : Bool) (d : TableDecl) (t : Parts) (e : Entry) → Kept d t → length (part masked t) < limit masked d → list_any (same_place e) (part masked t) ≡ false → Kept d (appended masked e t)

@@ -40,10 +40,10 @@ module _ (d : TableDecl) (keys row : Space) (l : Lists) (rs ss : List Ready) (r 
 
 -- ---- what fits, part by part
 
-pub record Facts (d : TableDecl) (keys : KeyList) (masks : Option KeyList) (row : List Value) : Type 0 where
-  pub keys : keys_fit (key_sizes (Some d)) keys ≡ true
-  pub masks : masks_fit (key_sizes (Some d)) masks ≡ true
-  pub row : row_fits d.columns row ≡ true
+pub record Facts (d : TableDecl) (ks : KeyList) (ms : Option KeyList) (vs : List Value) : Type 0 where
+  pub keys : keys_fit (key_sizes (Some d)) ks ≡ true
+  pub masks : masks_fit (key_sizes (Some d)) ms ≡ true
+  pub row : row_fits d.columns vs ≡ true
 
 entry_facts : (d : TableDecl) (e : Entry) → entry_fits d e ≡ true → Facts d e.keys e.masks e.row
 entry_facts d e h =

@@ -120,9 +120,12 @@ impl Table for ListTable {
             return Answer::Miss;
         };
         let ready = blank::take(&mut self.ready);
-        let row = ready.answer.filled_row(self.lists.entry(place).row.as_slice());
+        let row = ready
+            .answer
+            .filled_row(self.lists.entry(place).row.as_slice());
         if renew {
-            self.lists.renew(&self.declaration, place, ready.entry, keys, t);
+            self.lists
+                .renew(&self.declaration, place, ready.entry, keys, t);
         }
         Answer::Hit(row)
     }
@@ -131,6 +134,7 @@ impl Table for ListTable {
         table_keeps();
         table_fits();
         let ready = blank::take(&mut self.ready);
-        self.lists.put(&self.declaration, entry::added(ready.entry, entry, t));
+        self.lists
+            .put(&self.declaration, entry::added(ready.entry, entry, t));
     }
 }

@@ -44,7 +44,10 @@ impl Room<Bytes> {
         requires { HoldsKeys self keys.now }
         ensures { result ≡ keys.now }
     {
-        let Room { mut list, mut buffers } = self;
+        let Room {
+            mut list,
+            mut buffers,
+        } = self;
         for key in keys {
             list.push_reserved(buffers.take().filled(key));
         }
@@ -56,7 +59,10 @@ impl Room<Bytes> {
         requires { HoldsKeys self keys.now }
         ensures { result ≡ masked_by (Some masks.now) keys.now }
     {
-        let Room { mut list, mut buffers } = self;
+        let Room {
+            mut list,
+            mut buffers,
+        } = self;
         for i in 0..masks.len().min(keys.len()) {
             list.push_reserved(buffers.take().filled_masked(&masks[i], &keys[i]));
         }
@@ -92,7 +98,10 @@ impl Room<Value> {
         requires { HoldsRow self row.now }
         ensures { result ≡ row.now }
     {
-        let Room { mut list, mut buffers } = self;
+        let Room {
+            mut list,
+            mut buffers,
+        } = self;
         for value in row {
             list.push_reserved(value_in(&mut buffers, value));
         }

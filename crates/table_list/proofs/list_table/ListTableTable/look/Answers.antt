@@ -114,7 +114,7 @@ returns-clause-content c =
     let l : look d t keys c.args.renew c.args.t ≡ (Hit e.row, if c.args.renew then r else t) = hit d t keys c.args.renew c.args.t e p in
     elim c.if-renew.branch [
       | then-renew w ↦
-        let q : content w.renew.new.self ≡ r = subst (λ (o : Option Entry). IfSome o (λ (x : Entry). content w.renew.new.self ≡ renewed_by x.validity d t keys c.args.t x)) c.entry.ensures w.renew.ensures.content in
-        ap (λ (x : State). x.content) w.self-is ∙ q ∙ sym (ap (λ (b : Bool). if b then r else t) w.if-renew.true) ∙ sym (ap (λ (x : Answer × Parts). x.1) l) ∙ ap (λ (x : State). (look x.declaration x.content keys c.args.renew c.args.t).1) c.self.view_is
+          let q : content w.renew.new.self ≡ r = subst (λ (o : Option Entry). IfSome o (λ (x : Entry). content w.renew.new.self ≡ renewed_by x.validity d t keys c.args.t x)) c.entry.ensures w.renew.ensures.content in
+          ap (λ (x : State). x.content) w.self-is ∙ q ∙ sym (ap (λ (b : Bool). if b then r else t) w.if-renew.true) ∙ sym (ap (λ (x : Answer × Parts). x.1) l) ∙ ap (λ (x : State). (look x.declaration x.content keys c.args.renew c.args.t).1) c.self.view_is
       | else-renew w ↦ ap (λ (x : State). x.content) w.self-is ∙ sym (ap (λ (b : Bool). if b then r else t) w.if-renew.false) ∙ sym (ap (λ (x : Answer × Parts). x.1) l) ∙ ap (λ (x : State). (look x.declaration x.content keys c.args.renew c.args.t).1) c.self.view_is
     ]
