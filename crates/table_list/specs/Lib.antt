@@ -1,0 +1,5 @@
+pub mod Lists
+pub mod Ready
+pub mod Search
+pub mod Space
+pub mod State
