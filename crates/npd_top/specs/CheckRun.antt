@@ -8,6 +8,7 @@ use Rattle.npd_top.specs.declared.plan.CheckFiles.{CheckFiles}
 use Rattle.npd_top.specs.declared.status.Role.TheVariants.{Db, Cap, Pdml, Out}
 use Rattle.npd_top.specs.declared.status.Status.{Status}
 use Rattle.npd_top.specs.declared.status.Status.TheVariants.{Done, Open, Read, Write, Database, NoMemory, Unbuilt}
+use Rattle.npd_top.specs.declared.totals.Totals.{Totals}
 use Rattle.npd_top.specs.Outside.{Outside, Opened, WroteNothing}
 use Rattle.npd_top.specs.Written.{Wrote, WroteFront, WrotePart}
 
@@ -27,26 +28,30 @@ pub record HasObjection (text : List ℕ) (line code : ℕ) : Type 0 where
 abbrev pub IsRefused : List ℕ → ℕ → ℕ → Type 0
 IsRefused text line code = Answers text (Err (fail.Fault line code)) ⊎ HasObjection text line code
 
--- what a database file is, by how the loading and the checking of it ended
-abbrev pub CheckedIs : Result model.Database Status → List ℕ → Type 0
-CheckedIs (Ok db) text = IsAccepted text db
-CheckedIs (Err (Database line code)) text = IsRefused text line code
-CheckedIs (Err other) text = Unit {0}
+-- how much a database declares
+abbrev pub totals_of : model.Database → Totals
+totals_of db = record { protocols = length db.protocols; tables = length db.tables; variables = length db.variables }
 
--- the line that says how much a database declares: `protocols P tables T variables V`
-unfoldable pub count_line : model.Database → List ℕ
-count_line db =
-    codes "protocols " ++ (decimal (length db.protocols) ++ (codes " tables " ++ (decimal (length db.tables)
-    ++ (codes " variables " ++ (decimal (length db.variables) ++ codes "\n")))))
+-- the line that says so: `protocols P tables T variables V`
+unfoldable pub totals_line : Totals → List ℕ
+totals_line t =
+    codes "protocols " ++ (decimal t.protocols ++ (codes " tables " ++ (decimal t.tables
+    ++ (codes " variables " ++ (decimal t.variables ++ codes "\n")))))
 
 -- a database that is accepted
 pub record HasAccepted (text : List ℕ) : Type 0 where
   pub db : model.Database
   pub is : IsAccepted text db
 
+-- what a database file is, by how the loading and the checking of it ended
+abbrev pub CheckedIs : Result Totals Status → List ℕ → Type 0
+CheckedIs (Ok told) text = (found : HasAccepted text) × (told ≡ totals_of found.db)
+CheckedIs (Err (Database line code)) text = IsRefused text line code
+CheckedIs (Err other) text = Unit {0}
+
 -- the database file, where it is told, is accepted, and this holds of its line
 abbrev pub FindsAccepted : CheckFiles → Outside → (List ℕ → Type 0) → Type 0
-FindsAccepted files before Holds = IfSome (before.files files.db) (λ text. (found : HasAccepted text) × Holds (count_line found.db))
+FindsAccepted files before Holds = IfSome (before.files files.db) (λ text. (found : HasAccepted text) × Holds (totals_line (totals_of found.db)))
 
 -- the output of a check
 abbrev pub standard : List ℕ

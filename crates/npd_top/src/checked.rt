@@ -7,9 +7,10 @@ ghost use Rattle.npd_top.specs.Outside.{OpensOne};
 
 use crate::load::read_text;
 use crate::status::Status;
+use crate::totals::{Totals, totals_of};
 use db_check::check;
 use db_load::load_database;
-use db_model::{CheckedDb, DbFail};
+use db_model::DbFail;
 use npd_host::Host;
 use std::alloc::Global;
 
@@ -23,28 +24,28 @@ fn status_of(fail: DbFail) -> Status
     }
 }
 
-/// Loads the text of a database, and checks it.
-fn accepted(alloc: Global, text: &[u8]) -> Result<CheckedDb, Status>
+/// Loads the text of a database, checks it, and tells how much it declares.
+fn accepted(alloc: Global, text: &[u8]) -> Result<Totals, Status>
     ensures database { CheckedIs result text.now }
     ensures fault { IfErr result IsFault }
 {
     match load_database(alloc, text) {
         Ok(db) => match check(alloc, db) {
-            Ok(db) => Ok(db),
+            Ok(db) => Ok(totals_of(db.database())),
             Err(fail) => Err(status_of(fail)),
         },
         Err(fail) => Err(status_of(fail)),
     }
 }
 
-/// Opens the database file, reads it, loads it and checks it. `most` is how many bytes are read at most: more than
-/// the text of a database has.
+/// Opens the database file, reads it, loads it, checks it, and tells how much it declares. `most` is how many bytes
+/// are read at most: more than the text of a database has.
 pub fn load_checked<H: Host>(
     alloc: Global,
     host: &mut H,
     name: &str,
     most: usize,
-) -> Result<CheckedDb, Status>
+) -> Result<Totals, Status>
     requires { MOST_TEXT_BYTES < most }
     ensures database { IfSome (H.files host.old name.now) (CheckedIs result) }
     ensures opens { OpensOne name.now (H.inputs host.old).opened (H.inputs host.new).opened result }

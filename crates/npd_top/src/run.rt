@@ -12,7 +12,7 @@ use crate::load::load;
 use crate::output::{write_line, write_pdml};
 use crate::plan::{CheckFiles, DecodeFiles, Plan, read_plan};
 use crate::status::{Part, Status};
-use crate::totals::count_line;
+use crate::totals::totals_line;
 use db_model::NoMemory;
 use npd_host::Host;
 use std::alloc::Global;
@@ -57,11 +57,11 @@ fn run_check<H: Host>(alloc: Global, host: &mut H, files: &CheckFiles) -> Status
     ensures later { NoneFalls (H.faults host.old) (H.faults host.new) }
 {
     // One byte more than a database has, so that a longer text is seen.
-    let db = match load_checked(alloc, host, files.db.as_str(), MOST_DATABASE + 1) {
-        Ok(db) => db,
+    let totals = match load_checked(alloc, host, files.db.as_str(), MOST_DATABASE + 1) {
+        Ok(totals) => totals,
         Err(status) => return status,
     };
-    let line = match count_line(alloc, db.database()) {
+    let line = match totals_line(alloc, &totals) {
         Ok(line) => line,
         Err(_) => return Status::NoMemory,
     };
