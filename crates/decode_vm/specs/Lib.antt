@@ -1,0 +1,7 @@
+pub mod Cost
+pub mod Field
+pub mod Left
+pub mod Machine
+pub mod Resume
+pub mod Sound
+pub mod Values

@@ -1,0 +1,7 @@
+//! Decodes a packet over anything that answers questions.
+#![tactic(auto)]
+
+mod machine;
+mod steps;
+
+pub use steps::Steps;
