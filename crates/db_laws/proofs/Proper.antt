@@ -20,7 +20,8 @@ use Rattle.db_model.specs.Names.{Text, table_at}
 use Rattle.db_model.specs.Proper.{Proper, Leaves, TakesFrom, Any, left_in, PlaysProper}
 use Rattle.db_model.specs.Questions.{Asks, Gives, Asking, and_then, play, Step, ◌then◌, on_ok}
 use Rattle.db_model.specs.Session.{Session, ask}
-use Rattle.db_model.specs.Special.{Special, special}
+use Rattle.db_model.specs.declared.expression.Special.{Special}
+use Rattle.db_model.specs.Special.{special}
 use Rattle.db_model.specs.Table.{KeyList}
 use Rattle.db_laws.proofs.Fitted.{and_both}
 

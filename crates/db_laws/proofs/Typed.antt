@@ -41,7 +41,9 @@ use Rattle.db_model.specs.TypeFaults.{fault_42, literal_is_wrong, own_42}
 use Rattle.db_model.proofs.Accepted.{append_front, append_back, no_faults}
 use Rattle.db_model.specs.Names.{Text, startproto, place, protocol_at, variable_at, table_at, column_at}
 use Rattle.db_model.specs.Questions.{Asks, Gives, Asking, and_then, ◌then◌, on_ok}
-use Rattle.db_model.specs.Special.{Special, Packet, PacketLength, CurrentOffset, ProtoOffset, LinkType, special}
+use Rattle.db_model.specs.declared.expression.Special.{Special}
+use Rattle.db_model.specs.declared.expression.Special.TheVariants.{Packet, PacketLength, CurrentOffset, ProtoOffset, LinkType}
+use Rattle.db_model.specs.Special.{special}
 use Rattle.db_model.specs.Typed.{variables_fit, last_hit_fits, hits_fit, env_fits, Gets, IsTyped}
 use Rattle.db_model.specs.Typing.{is_among, is_protocol, has_undeclared, has_wrong_arity, typed_if, operator_ty, declared_ty, column_ty, columns_in, variable_ty, ty_of, or_mistyped, type_of}
 use Rattle.db_laws.proofs.Fitted.{not_false, and_both, and_first, and_second, two}
