@@ -81,6 +81,7 @@ module _ (db : Database) (fields : List Text) (code : ProtoCode) where
   loop_less most most' h a body after g = record { inner = g.inner; turns = g.turns; rest = g.rest; at_body = g.at_body; at_rest = g.at_rest; left = turns_less most most' h a g.inner g.turns g.left }
 
   pub follow_less : (most most' : ℕ) → most' ≤ most → (hs : List Held) (k : Rest) → Follow db fields code most hs k → Follow db fields code most' hs k
+  unfolding loop_less
   follow_less most most' h [] k f = f
   follow_less most most' h (held.Block n from before after ∷ hs) k f = (f.0, (follow_less most most' h hs f.0 f.1.0, f.1.1))
   follow_less most most' h (held.Loop a body after ∷ hs) k f = (f.0, (follow_less most most' h hs f.0 f.1.0, record { loop = loop_less most most' h a body after f.1.1.loop; is = f.1.1.is }))

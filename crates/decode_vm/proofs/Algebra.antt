@@ -37,7 +37,7 @@ Passes k = (ns : List Node) (w : Went) → behind ns (k w) ≡ k (w.0, ns ++ w.1
 -- nodes behind nodes
 pub behind_twice : (ms ns : List Node) (p : Run) → behind ms (behind ns p) ≡ behind (ms ++ ns) p
 behind_twice ms ns p =
-    (λ i z. and_assoc (p z) (λ r. Gives ((r.0.0, ns ++ r.0.1), r.1)) (λ r. Gives ((r.0.0, ms ++ r.0.1), r.1)) i)
+    (λ i z. and_assoc {B = Went × Frame} (p z) (λ r. Gives ((r.0.0, ns ++ r.0.1), r.1)) (λ r. Gives ((r.0.0, ms ++ r.0.1), r.1)) i)
     ∙ (λ i z. and_then (p z) (λ r. Gives ((r.0.0, sym (append_assoc ms ns r.0.1) i), r.1)))
 
 pub behind_none : (p : Run) → behind [] p ≡ p
@@ -46,9 +46,9 @@ behind_none p = then_pure p
 -- nodes before a run whose rest takes them as they are
 pub behind_then : (ns : List Node) (p : Run) (k : Rest) → Passes k → behind ns (p then k) ≡ (behind ns p then k)
 behind_then ns p k h =
-    (λ i z. and_assoc (p z) (λ r. k r.0 r.1) (λ r. Gives ((r.0.0, ns ++ r.0.1), r.1)) i)
+    (λ i z. and_assoc {B = Went × Frame} (p z) (λ r. k r.0 r.1) (λ r. Gives ((r.0.0, ns ++ r.0.1), r.1)) i)
     ∙ ((λ i z. and_then (p z) (λ r. h ns r.0 i r.1))
-    ∙ sym (λ i z. and_assoc (p z) (λ r. Gives ((r.0.0, ns ++ r.0.1), r.1)) (λ r. k r.0 r.1) i))
+    ∙ sym (λ i z. and_assoc {B = Went × Frame} (p z) (λ r. Gives ((r.0.0, ns ++ r.0.1), r.1)) (λ r. k r.0 r.1) i))
 
 pub passes_pure : Passes pure
 passes_pure ns w = refl
@@ -80,11 +80,11 @@ passes_then j k h g ns w = behind_then ns (j w) k g ∙ ap (λ (p : Run). p then
 
 -- what follows takes the nodes as one list
 pub onto_is : (ns : List Node) (p : Run) (k : Rest) → (behind ns p then k) ≡ (p then onto ns k)
-onto_is ns p k = λ i z. and_assoc (p z) (λ r. Gives ((r.0.0, ns ++ r.0.1), r.1)) (λ r. k r.0 r.1) i
+onto_is ns p k = λ i z. and_assoc {B = Went × Frame} (p z) (λ r. Gives ((r.0.0, ns ++ r.0.1), r.1)) (λ r. k r.0 r.1) i
 
 pub onto_twice : (ns ms : List Node) (p : Run) (k : Rest) → (behind ms p then onto ns k) ≡ (p then onto (ns ++ ms) k)
 onto_twice ns ms p k =
-    (λ i z. and_assoc (p z) (λ r. Gives ((r.0.0, ms ++ r.0.1), r.1)) (λ r. onto ns k r.0 r.1) i)
+    (λ i z. and_assoc {B = Went × Frame} (p z) (λ r. Gives ((r.0.0, ms ++ r.0.1), r.1)) (λ r. onto ns k r.0 r.1) i)
     ∙ (λ i z. and_then (p z) (λ r. k (r.0.0, sym (append_assoc ns ms r.0.1) i) r.1))
 
 -- a way that is there

@@ -61,7 +61,7 @@ next_turn a turns rest ns k =
 
 -- ---- lists
 
-turn_over : {A : Type 0} (xs ys : List A) (x : A) → ys ≡ xs ++ x ∷ [] → reverse ys ≡ x ∷ reverse xs
+pub turn_over : {A : Type 0} (xs ys : List A) (x : A) → ys ≡ xs ++ x ∷ [] → reverse ys ≡ x ∷ reverse xs
 turn_over xs ys x e = ap reverse e ∙ reverse-append xs (x ∷ [])
 
 module _ (db : Database) (fields : List Text) (code : ProtoCode) (t : ℕ) (w : Run) (s : Point Frame) where

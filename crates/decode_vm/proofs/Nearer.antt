@@ -38,8 +38,9 @@ not_zero n h = let no : n ≡ 0 → ⊥ = λ e. differ ((Decides-eqb n 0).1 e) i
     differ e = cc
 
 module _ (code : ProtoCode) where
-  size : ℕ
-  size = length code.ops
+  same_cost : (m : Machine) (e : Env) → e.turns ≡ m.frame.env.turns → cost code (at_env e m) ≡ cost code m
+  unfolding cost
+  same_cost m e h = ap (λ x. (x + m.frame.nodes) * for_each (length code.ops) + (of_mode (length code.ops) m.mode + of_all (length code.ops) m.held)) h
 
   -- an evaluation first
   pub near_env : (m : Machine) (e : Env) (n : Machine) → Stays m.frame.env e → Nearer code (at_env e m) n → Nearer code m n
@@ -49,10 +50,6 @@ module _ (code : ProtoCode) where
         (sound_kept m.frame (at_env e m).frame (olds_in m.mode (olds_of (reverse m.held))) (reverse m.held) (keeps_env m.frame e h) (sound_of m (olds_in m.mode (olds_of (reverse m.held))) (reverse m.held) refl refl s)));
     less = subst (λ x. cost code n < x) (same_cost m e (ap (λ (x : Env). x.turns) h)) r.less;
   }
-    where
-      same_cost : (m : Machine) (e : Env) → e.turns ≡ m.frame.env.turns → cost code (at_env e m) ≡ cost code m
-      unfolding cost
-      same_cost m e h = ap (λ x. (x + m.frame.nodes) * for_each (length code.ops) + (of_mode (length code.ops) m.mode + of_all (length code.ops) m.held)) h
 
   -- another mode, or a part that was done at once
   pub near_kept : (m n : Machine) → Keeps m.frame n.frame → n.held ≡ m.held → olds_in n.mode (olds_of (reverse m.held)) ≡ olds_in m.mode (olds_of (reverse m.held)) → of_mode (length code.ops) n.mode < of_mode (length code.ops) m.mode → Nearer code m n

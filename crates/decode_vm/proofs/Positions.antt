@@ -108,7 +108,7 @@ forward a b c x y h k = grind (arith, mul_le a b c h)
 -- a turn or a node pays for a list
 paid : (a b c x y : ℕ) → a + 1 ≡ b → x < c + y → a * c + x < b * c + y
 paid a b c x y h k =
-    let e : b * c ≡ a * c + c = grind arith in omega arith
+    let e : (a + 1) * c ≡ b * c = ap (λ n. n * c) h in omega arith
 
 of_push : (size : ℕ) (hs : List Held) (h : Held) → of_all size (hs ++ h ∷ []) ≡ of_all size hs + of_held size h
 of_push size [] h = omega arith

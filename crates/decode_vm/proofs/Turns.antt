@@ -214,7 +214,7 @@ module _ (db : Database) (fields : List Text) (code : ProtoCode) where
       → Moves db fields code m c l (tested v at body after o) c' l'
   moves_tested at body after to value v m o c l c' l' e f g =
       moves_value db fields code (number db fields value) (WhileStep at body after to value m.frame.env.turns) m c l c' l' (begins_while at body after to value m e f) v o (tested v at body after o) g
-      (λ t w s k j p a. step t w s k p (ahead_same db fields code t w s (j v) (of_loop (again.While at) (chosen p) p.rest) k o c' l' (ap (λ (x : ℕ → Run). x v) p.is ∙ ap (λ (q : Run). q then go p.rest) (sym (then_pure (chosen p)))) a) (v == 0) refl)
+      (λ t w s k j p a. step t w s k p (ahead_same db fields code t w s (j v) (of_loop (again.While at) (if is_so v then more_of db fields code p.left (number db fields value) p.inner else next) p.rest) k o c' l' (ap (λ (x : ℕ → Run). x v) p.is ∙ ap (λ (q : Run). q then go p.rest) (sym (then_pure (if is_so v then more_of db fields code p.left (number db fields value) p.inner else next)))) a) (v == 0) refl)
       (near (v == 0) refl)
     where
       test : Eval ℕ
@@ -225,9 +225,6 @@ module _ (db : Database) (fields : List Text) (code : ProtoCode) where
 
       there_too : o.mode ≡ mode.Turn (again.While at) body after
       there_too = ap (λ (y : Machine). y.mode) g.is ∙ e
-
-      abbrev chosen : {j : ℕ → Run} → WhileStep at body after to value m.frame.env.turns j → Run
-      chosen p = if is_so v then more_of db fields code p.left (number db fields value) p.inner else next
 
       step : (t : ℕ) (w : Run) (s : Point Frame) (k : Rest) {j : ℕ → Run} (p : WhileStep at body after to value m.frame.env.turns j)
           → Ahead db fields code t w s (of_loop (again.While at) (if is_so v then more_of db fields code p.left (number db fields value) p.inner else next) p.rest) k o c' l' → (b : Bool) → (v == 0) ≡ b
