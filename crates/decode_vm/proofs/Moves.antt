@@ -189,11 +189,8 @@ module _ (db : Database) (fields : List Text) (code : ProtoCode) where
             let turns : g.0.turns m.frame ≡ turn g.0.inner (count (left - 1) g.0.inner) m.frame = ap (λ (p : Run). p m.frame) g.0.left ∙ ap (λ n. count n g.0.inner m.frame) (not_zero left f) in
             left_turn t w s (again.Count (left - 1)) body after g.0.turns g.0.rest a.rest m c l (ahead_same db fields code t w s a.run (of_loop (again.Count (left - 1)) g.0.turns g.0.rest) a.rest m c l g.1 a.ahead)
             (record { inner = g.0.inner; at_body = g.0.at_body; at_rest = g.0.at_rest; none = λ x. turns ∙ no_turn g.0.inner (count (left - 1) g.0.inner) m.frame x; more = λ n x. (count (left - 1) g.0.inner, turns, refl) });
-        nearer = near_spent code (again.Count (left - 1)) (again.Count left) body after m e (λ os. refl) (near_unspent_count left body after m e);
+        nearer = near_spent code (again.Count (left - 1)) (again.Count left) body after m e (λ os. refl) (near_unspent code (again.Count left) body after m e);
       }
-
-      near_unspent_count : (left body after : ℕ) (m : Machine) → m.mode ≡ mode.Turn (again.Count left) body after → Nearer code m (restored (again.Count (left - 1)) (halted reason.Turns m))
-      near_unspent_count left body after m e = near_unspent code (again.Count left) body after m e
 
   -- of the bytes before a limit
   pub moves_sized : (old body after : ℕ) (m : Machine) (c : Session) (l : Option Log) → m.mode ≡ mode.Turn (again.Size old) body after → Moves db fields code m c l (sized old body after m) c l

@@ -1,7 +1,13 @@
 //! Decodes a packet over anything that answers questions.
 #![tactic(auto)]
 
+mod choose;
+mod enter;
 mod machine;
+mod resume;
+mod set;
 mod steps;
+mod turn;
+mod values;
 
 pub use steps::Steps;
