@@ -47,7 +47,7 @@ module _ {A B : Type 0} (db : Database) where
 
 -- ---- places
 
-get_within : {A : Type 0} (xs : List A) (i : ℕ) (x : A) → slice_get xs i ≡ Some x → i < length xs
+pub get_within : {A : Type 0} (xs : List A) (i : ℕ) (x : A) → slice_get xs i ≡ Some x → i < length xs
 get_within [] i x e = (cc)
 get_within (y ∷ ys) zero x e = omega arith
 get_within (y ∷ ys) (suc i) x e = let h = get_within ys i x e in omega arith

@@ -5,3 +5,6 @@ pub mod Positions
 pub mod Nearer
 pub mod Moves
 pub mod Turns
+pub mod Settled
+pub mod Operations
+pub mod Entered

@@ -3,7 +3,7 @@ ghost use Rattle.db_model.specs.Elements.{number};
 ghost use Rattle.db_model.specs.Expression.{num, proto, val};
 ghost use Rattle.db_model.specs.Numbering.{names_of_protocol};
 ghost use Rattle.decode_vm.specs.Machine.{halted};
-ghost use Rattle.decode_vm.specs.Values.{Settled, Valued};
+ghost use Rattle.decode_vm.specs.Values.{Settled, Valued, numbered};
 
 use crate::machine::{Machine, Mode};
 use db_model::{Answers, CheckedDb, Expr, NoMemory, Node, Reason, STAMP_END, Value, Way};
@@ -69,14 +69,21 @@ pub fn evaluate_number<A: Answers>(
     ensures database { A.database answers.new ≡ db.now }
     ensures value { Valued db.now (number db.now (names_of_protocol db.now protocol) e.now) m.old (A.content answers.old) (A.told answers.old) result m.new (A.content answers.new) (A.told answers.new) }
 {
-    match evaluate(alloc, db, protocol, e, m, answers)? {
-        Some(value) => Ok(Some(number_of(&value))),
-        None => Ok(None),
+    let value = eval(alloc, e, db, protocol, &mut m.frame.env, answers);
+    settle(m, as_number(value))
+}
+
+fn as_number(value: Result<Value, EvalEnd>) -> Result<u32, EvalEnd>
+    ensures { result ≡ numbered value }
+{
+    match value {
+        Ok(v) => Ok(number_of(&v)),
+        Err(e) => Err(e),
     }
 }
 
 /// 0 where it is no number.
-fn number_of(value: &Value) -> u32
+pub fn number_of(value: &Value) -> u32
     ensures { result ≡ num value.now }
 {
     match value {

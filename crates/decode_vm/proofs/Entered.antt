@@ -1,0 +1,66 @@
+-- The steps of a machine as functions answer them.
+use Rattle.std.specs.Prelude.{◌≡◌, ℕ, ◌+◌, ◌<◌, ◌≤◌, List, length, slice_get, Option, Some, None, Result, Ok, Err, OnOk}
+use Rattle.std.proofs.Common.{refl, sym, ap, subst, ◌∙◌, arith}
+use Rattle.db_model.specs.declared.database.Database.{Database}
+use Rattle.db_model.specs.declared.element.LoopKind.TheVariants as kind
+use Rattle.db_model.specs.declared.expression.Expr.{Expr}
+use Rattle.db_model.specs.declared.no_memory.NoMemory.{NoMemory}
+use Rattle.db_model.specs.Elements.{number}
+use Rattle.db_model.specs.Names.{Text}
+use Rattle.db_model.specs.Questions.{Log}
+use Rattle.db_model.specs.Session.{Session}
+use Rattle.pdl_code.specs.declared.code.Op.TheVariants.{Loop}
+use Rattle.pdl_code.specs.declared.code.ProtoCode.{ProtoCode}
+use Rattle.decode_vm.specs.declared.machine.Again.TheVariants as again
+use Rattle.decode_vm.specs.declared.machine.Machine.{Machine}
+use Rattle.decode_vm.specs.declared.machine.Mode.TheVariants as mode
+use Rattle.decode_vm.specs.Left.{Moves, Refuses, StepsTo}
+use Rattle.decode_vm.specs.Machine.{place_behind, in_mode, tested, under}
+use Rattle.decode_vm.specs.Values.{Gave, Valued}
+use Rattle.decode_vm.proofs.Ahead.{get_within}
+use Rattle.decode_vm.proofs.Moves.{refuses_here, refuses_after}
+use Rattle.decode_vm.proofs.Turns.{moves_while, begins_count, moves_count, SizeStep, begins_size, moves_size, WhileStep, begins_while, moves_tested}
+
+module _ (db : Database) (fields : List Text) (code : ProtoCode) where
+  -- a step that asks nothing, or was refused memory
+  pub steps_by : {A : Type 0} (m x n : Machine) (c : Session) (l : Option Log) (o : Result A NoMemory) → Moves db fields code m c l x c l → OnOk o (n ≡ x) → StepsTo db fields code m c l o n c l
+  steps_by m x n c l (Ok a) h e = subst (λ y. Moves db fields code m c l y c l) (sym e) h
+  steps_by m x n c l (Err f) h e = refuses_here db fields code m n f c l
+
+  pub while_begun : (pc to body after : ℕ) (value : Expr) (m : Machine) (c : Session) (l : Option Log) → m.mode ≡ mode.At pc → slice_get code.ops pc ≡ Some (Loop kind.While value to) → body ≡ place_behind code pc 0 → after ≡ place_behind code pc to
+      → Moves db fields code m c l (in_mode (mode.Turn (again.While pc) body after) m) c l
+  while_begun pc to body after value m c l e f g h =
+      subst (λ x. Moves db fields code m c l (in_mode (mode.Turn (again.While pc) x after) m) c l) (sym g)
+      (subst (λ x. Moves db fields code m c l (in_mode (mode.Turn (again.While pc) (place_behind code pc 0) x) m) c l) (sym h) (moves_while db fields code pc to value m c l e (get_within code.ops pc (Loop kind.While value to) f) f))
+
+  module _ (m o : Machine) (c : Session) (l : Option Log) (c' : Session) (l' : Option Log) where
+    pub count_begun : (pc to body after v : ℕ) (x : Option ℕ) (value : Expr) → m.mode ≡ mode.At pc → slice_get code.ops pc ≡ Some (Loop kind.Count value to) → body ≡ place_behind code pc 0 → after ≡ place_behind code pc to → x ≡ Some v → Valued db (number db fields value) m c l (Ok x) o c' l'
+        → Moves db fields code m c l (in_mode (mode.Turn (again.Count v) body after) o) c' l'
+    count_begun pc to body after v x value e f g h s k =
+        subst (λ y. Moves db fields code m c l (in_mode (mode.Turn (again.Count v) y after) o) c' l') (sym g)
+        (subst (λ y. Moves db fields code m c l (in_mode (mode.Turn (again.Count v) (place_behind code pc 0) y) o) c' l') (sym h)
+        (moves_count db fields code pc to value v m o c l c' l' e (get_within code.ops pc (Loop kind.Count value to) f) f (subst (λ y. Valued db (number db fields value) m c l (Ok y) o c' l') s k)))
+
+    pub size_begun : (pc to body after v : ℕ) (x : Option ℕ) (value : Expr) {A : Type 0} (r : Result A NoMemory) (n : Machine) → m.mode ≡ mode.At pc → slice_get code.ops pc ≡ Some (Loop kind.Size value to) → body ≡ place_behind code pc 0 → after ≡ place_behind code pc to → x ≡ Some v → Valued db (number db fields value) m c l (Ok x) o c' l'
+        → OnOk r (n ≡ under v body after o) → StepsTo db fields code m c l r n c' l'
+    size_begun pc to body after v x value r n e f g h s k q = by r q
+      where
+        gave : Gave db (number db fields value) m c l v o c' l'
+        gave = subst (λ y. Valued db (number db fields value) m c l (Ok y) o c' l') s k
+
+        by : {B : Type 0} (u : Result B NoMemory) → OnOk u (n ≡ under v body after o) → StepsTo db fields code m c l u n c' l'
+        by (Ok a) q =
+            subst (λ y. Moves db fields code m c l y c' l') (sym (q ∙ (ap (λ y. under v y after o) g ∙ ap (λ y. under v (place_behind code pc 0) y o) h)))
+            (moves_size db fields code pc to value v m o c l c' l' e (get_within code.ops pc (Loop kind.Size value to) f) f gave)
+        by (Err b) q = refuses_after db fields code (number db fields value) (SizeStep db fields code pc to) m c l c' l' (begins_size db fields code pc to value m e f) v o n b gave
+
+    pub test_gone : (at body after to v : ℕ) (x : Option ℕ) (value : Expr) {A : Type 0} (r : Result A NoMemory) (n : Machine) → m.mode ≡ mode.Turn (again.While at) body after → slice_get code.ops at ≡ Some (Loop kind.While value to) → x ≡ Some v → Valued db (number db fields value) m c l (Ok x) o c' l'
+        → OnOk r (n ≡ tested v at body after o) → StepsTo db fields code m c l r n c' l'
+    test_gone at body after to v x value r n e f s k q = by r q
+      where
+        gave : Gave db (number db fields value) m c l v o c' l'
+        gave = subst (λ y. Valued db (number db fields value) m c l (Ok y) o c' l') s k
+
+        by : {B : Type 0} (u : Result B NoMemory) → OnOk u (n ≡ tested v at body after o) → StepsTo db fields code m c l u n c' l'
+        by (Ok a) q = subst (λ y. Moves db fields code m c l y c' l') (sym q) (moves_tested db fields code at body after to value v m o c l c' l' e f gave)
+        by (Err b) q = refuses_after db fields code (number db fields value) (WhileStep db fields code at body after to value m.frame.env.turns) m c l c' l' (begins_while db fields code at body after to value m e f) v o n b gave
