@@ -2,6 +2,7 @@
 use Rattle.std.specs.Prelude.{◌≡◌, ℕ, ◌+◌, ◌<◌, ◌≤◌, List, length, slice_get, Option, Some, None, Result, Ok, Err, OnOk}
 use Rattle.std.proofs.Common.{refl, sym, ap, subst, ◌∙◌, arith}
 use Rattle.db_model.specs.declared.database.Database.{Database}
+use Rattle.db_model.specs.declared.element.LoopKind.{LoopKind}
 use Rattle.db_model.specs.declared.element.LoopKind.TheVariants as kind
 use Rattle.db_model.specs.declared.expression.Expr.{Expr}
 use Rattle.db_model.specs.declared.no_memory.NoMemory.{NoMemory}
@@ -14,12 +15,12 @@ use Rattle.pdl_code.specs.declared.code.ProtoCode.{ProtoCode}
 use Rattle.decode_vm.specs.declared.machine.Again.TheVariants as again
 use Rattle.decode_vm.specs.declared.machine.Machine.{Machine}
 use Rattle.decode_vm.specs.declared.machine.Mode.TheVariants as mode
-use Rattle.decode_vm.specs.Left.{Moves, Refuses, StepsTo}
+use Rattle.decode_vm.specs.Left.{Doing, Running, Moves, Refuses, StepsTo}
 use Rattle.decode_vm.specs.Machine.{place_behind, in_mode, tested, under}
 use Rattle.decode_vm.specs.Values.{Gave, Valued}
 use Rattle.decode_vm.proofs.Ahead.{get_within}
 use Rattle.decode_vm.proofs.Moves.{refuses_here, refuses_after}
-use Rattle.decode_vm.proofs.Turns.{moves_while, begins_count, moves_count, SizeStep, begins_size, moves_size, WhileStep, begins_while, moves_tested}
+use Rattle.decode_vm.proofs.Turns.{same_kind, moves_while, begins_count, moves_count, SizeStep, begins_size, moves_size, WhileStep, begins_while, moves_tested}
 
 module _ (db : Database) (fields : List Text) (code : ProtoCode) where
   -- a step that asks nothing, or was refused memory
@@ -64,3 +65,9 @@ module _ (db : Database) (fields : List Text) (code : ProtoCode) where
         by : {B : Type 0} (u : Result B NoMemory) → OnOk u (n ≡ tested v at body after o) → StepsTo db fields code m c l u n c' l'
         by (Ok a) q = subst (λ y. Moves db fields code m c l y c' l') (sym q) (moves_tested db fields code at body after to value v m o c l c' l' e f gave)
         by (Err b) q = refuses_after db fields code (number db fields value) (WhileStep db fields code at body after to value m.frame.env.turns) m c l c' l' (begins_while db fields code at body after to value m e f) v o n b gave
+
+  -- the loop with a test whose turn it is
+  pub is_while : (at body after a : ℕ) (k : LoopKind) (v : Expr) (m : Machine) (c : Session) (l : Option Log) → m.mode ≡ mode.Turn (again.While at) body after → Running db fields code m c l → slice_get code.ops at ≡ Some (Loop k v a) → slice_get code.ops at ≡ Some (Loop kind.While v a)
+  is_while at body after a k v m c l e r f =
+      let g = subst (λ y. Doing db fields code m.frame.env.turns y r.left.run) e r.left.doing in
+      f ∙ ap (λ (x : LoopKind). Some (Loop x v a)) (same_kind (slice_get code.ops at) k kind.While v g.0.left.value a g.0.left.after f g.0.left.stands)

@@ -29,7 +29,7 @@ use Rattle.pdl_code.specs.declared.code.ProtoCode.{ProtoCode}
 use Rattle.pdl_code.specs.Does.{unless_so, target, act, Does}
 use Rattle.pdl_code.specs.Means.{DoesPlain, DoesTest, DoesSwitch}
 use Rattle.pdl_code.proofs.Inversion.{invert}
-use Rattle.decode_vm.specs.declared.machine.Again.{Again}
+use Rattle.decode_vm.specs.declared.machine.Again.TheVariants as again
 use Rattle.decode_vm.specs.declared.machine.Machine.{Machine}
 use Rattle.decode_vm.specs.declared.machine.Mode.{Mode}
 use Rattle.decode_vm.specs.declared.machine.Mode.TheVariants as mode
@@ -55,6 +55,11 @@ module _ (db : Database) (fields : List Text) (code : ProtoCode) where
 
     pub ended_at : (pc : ℕ) (x : Option A) (n : Machine) → m.mode ≡ mode.At pc → x ≡ None → Valued db q m c l (Ok x) n c' l' → Moves db fields code m c l n c' l'
     ended_at pc x n e f g =
+        moves_halted db fields code q P m c l c' l' b n (λ os. sym (ap (λ y. olds_in y os) e)) (subst (λ y. 1 < of_mode (length code.ops) y) (sym e) (omega arith))
+        (subst (λ y. Valued db q m c l (Ok y) n c' l') f g)
+
+    pub ended_in : (at body after : ℕ) (x : Option A) (n : Machine) → m.mode ≡ mode.Turn (again.While at) body after → x ≡ None → Valued db q m c l (Ok x) n c' l' → Moves db fields code m c l n c' l'
+    ended_in at body after x n e f g =
         moves_halted db fields code q P m c l c' l' b n (λ os. sym (ap (λ y. olds_in y os) e)) (subst (λ y. 1 < of_mode (length code.ops) y) (sym e) (omega arith))
         (subst (λ y. Valued db q m c l (Ok y) n c' l') f g)
 

@@ -49,7 +49,7 @@ use Rattle.decode_vm.proofs.Positions.{nearer}
 same_value : (x : Option Op) (j k : LoopKind) (v u : Expr) (a b : ℕ) → x ≡ Some (Loop j v a) → x ≡ Some (Loop k u b) → v ≡ u
 same_value x j k v u a b e f = cc
 
-same_kind : (x : Option Op) (j k : LoopKind) (v u : Expr) (a b : ℕ) → x ≡ Some (Loop j v a) → x ≡ Some (Loop k u b) → j ≡ k
+pub same_kind : (x : Option Op) (j k : LoopKind) (v u : Expr) (a b : ℕ) → x ≡ Some (Loop j v a) → x ≡ Some (Loop k u b) → j ≡ k
 same_kind x j k v u a b e f = cc
 
 module _ (db : Database) (fields : List Text) (code : ProtoCode) where

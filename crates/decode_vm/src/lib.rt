@@ -3,6 +3,7 @@
 
 mod choose;
 mod enter;
+mod field;
 mod machine;
 mod resume;
 mod set;
