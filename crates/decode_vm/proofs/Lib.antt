@@ -8,3 +8,4 @@ pub mod Turns
 pub mod Settled
 pub mod Operations
 pub mod Entered
+pub mod Fields

@@ -87,7 +87,9 @@ fn add(
 /// So many bytes from a position on.
 fn piece(bytes: &Bytes, at: u32, size: u32) -> &[u8]
     requires { at + size ≤ length bytes.now }
-    ensures { result.now ≡ take size (drop at bytes.now) }
+    ensures bytes { result.now ≡ take size (drop at bytes.now) }
+    ensures bound { length result.now ≤ MOST_BYTES }
+    ensures whole { length bytes.now ≤ MOST_BYTES }
 {
     let rest = &bytes.as_slice()[at as usize..];
     &rest[..size as usize]
@@ -112,7 +114,8 @@ fn value_of(alloc: Global, kind: &FieldKind, bytes: &[u8]) -> Result<Bytes, NoMe
 
 /// How far the position moves behind a field of this size.
 fn step(kind: &FieldKind, size: u32) -> u32
-    ensures { result ≡ step_by kind.now size }
+    ensures step { result ≡ step_by kind.now size }
+    ensures within { result ≤ size }
 {
     match kind {
         FieldKind::Bit { mask, .. } if *mask % 2 == 0 => 0,
