@@ -1,1 +1,13 @@
+pub mod Algebra
 pub mod Inversion
+pub mod Standing
+pub mod Pieces
+pub mod Choices
+pub mod Trees
+pub mod Named
+pub mod Compiled
+pub mod Elements
+pub mod Room
+pub mod Emitted
+pub mod Walks
+pub mod Whole

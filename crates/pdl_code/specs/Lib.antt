@@ -1,3 +1,5 @@
+pub mod Coding
 pub mod Does
 pub mod Means
+pub mod Parts
 pub mod Sound

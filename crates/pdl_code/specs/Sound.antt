@@ -1,5 +1,5 @@
 -- The kinds of fields that a database without faults may have.
-use Rattle.std.specs.Prelude.{◌≢◌, ℕ, ◌<◌, ◌≤◌}
+use Rattle.std.specs.Prelude.{◌≢◌, ◌<◌, ◌≤◌}
 use Rattle.db_model.specs.declared.field_kind.FieldKind.{FieldKind}
 use Rattle.db_model.specs.declared.field_kind.FieldKind.TheVariants.{Fixed, Bit, Variable, TokenEnded, Line, Padding}
 use Rattle.db_model.specs.declared.limits.TheConstants.{MOST_BIT_SIZE}

@@ -10,10 +10,19 @@ pub enum Op {
     /// The end of a list: of the protocol's own one, of a named block, or of the body of a block or a loop.
     End,
     /// A field whose kind says where it ends.
-    Field { number: u32, kind: SoundKind },
+    Field {
+        number: u32,
+        kind: SoundKind,
+    },
     /// A field whose size in bytes is a value.
-    SizedField { number: u32, size: Expr },
-    Assign { variable: usize, value: Expr },
+    SizedField {
+        number: u32,
+        size: Expr,
+    },
+    Assign {
+        variable: usize,
+        value: Expr,
+    },
     /// `keep` and `hit` are seconds.
     Update {
         table: usize,
@@ -23,12 +32,21 @@ pub enum Op {
         keys: Items<UpdateKey>,
         row: Items<UpdateValue>,
     },
-    NextProto { value: Expr },
+    NextProto {
+        value: Expr,
+    },
     /// Leaves the turn of the innermost loop, and on `Break` the loop.
-    Leave { kind: LoopControl },
-    Jump { to: usize },
+    Leave {
+        kind: LoopControl,
+    },
+    Jump {
+        to: usize,
+    },
     /// Jumps where the value is 0.
-    Test { value: Expr, to: usize },
+    Test {
+        value: Expr,
+        to: usize,
+    },
     /// Jumps to the target of the first range that holds the value, which has the range's place.
     Switch {
         value: Expr,
@@ -37,9 +55,14 @@ pub enum Op {
         otherwise: usize,
     },
     /// A block, whose body stands behind it.
-    Block { number: u32, after: usize },
+    Block {
+        number: u32,
+        after: usize,
+    },
     /// A named block, by its place in the protocol.
-    Include { block: usize },
+    Include {
+        block: usize,
+    },
     /// A loop, whose body stands behind it.
     Loop {
         kind: LoopKind,

@@ -1,15 +1,17 @@
 //! The code of a database: for each protocol one flat list of operations with jumps, made once before packets are
 //! decoded. The contract of `compile` says that from the first operation of a protocol the operations do exactly
-//! what the definition of decoding says of the protocol's elements. `specs/Does.antt` has that relation, and says
-//! of each operation what it does.
+//! what the definition of decoding says of the protocol's elements (`specs/Does.antt`).
 #![tactic(auto)]
 
 mod code;
+mod copy;
+mod emit;
+mod leaf;
+mod place;
+mod protocols;
 mod sound;
+mod written;
 
-pub use code::BlockStart;
-pub use code::Code;
-pub use code::Op;
-pub use code::ProtoCode;
-pub use sound::Ranges;
-pub use sound::SoundKind;
+pub use code::{BlockStart, Code, Op, ProtoCode};
+pub use protocols::compile;
+pub use sound::{Ranges, SoundKind};
