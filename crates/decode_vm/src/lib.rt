@@ -1,14 +1,17 @@
 //! Decodes a packet over anything that answers questions.
 #![tactic(auto)]
 
+mod act;
 mod choose;
 mod enter;
 mod field;
 mod machine;
+mod masks;
 mod resume;
 mod set;
 mod steps;
 mod turn;
+mod update;
 mod values;
 
 pub use steps::Steps;
