@@ -1,25 +1,31 @@
 -- The steps of a machine as functions answer them.
-use Rattle.std.specs.Prelude.{◌≡◌, ℕ, ◌+◌, ◌<◌, ◌≤◌, List, length, slice_get, Option, Some, None, Result, Ok, Err, OnOk}
+use Rattle.std.specs.Prelude.{◌≡◌, ℕ, ◌+◌, ◌<◌, ◌≤◌, List, length, reverse, slice_get, Option, Some, None, Result, Ok, Err, OnOk}
 use Rattle.std.proofs.Common.{refl, sym, ap, subst, ◌∙◌, arith}
 use Rattle.db_model.specs.declared.database.Database.{Database}
 use Rattle.db_model.specs.declared.element.LoopKind.{LoopKind}
 use Rattle.db_model.specs.declared.element.LoopKind.TheVariants as kind
 use Rattle.db_model.specs.declared.expression.Expr.{Expr}
 use Rattle.db_model.specs.declared.no_memory.NoMemory.{NoMemory}
+use Rattle.db_model.specs.declared.field_kind.FieldKind.TheVariants.{Variable}
 use Rattle.db_model.specs.Elements.{number}
+use Rattle.db_model.specs.Expression.{Eval}
+use Rattle.db_model.specs.Runs.{place_field}
 use Rattle.db_model.specs.Names.{Text}
 use Rattle.db_model.specs.Questions.{Log}
 use Rattle.db_model.specs.Session.{Session}
-use Rattle.pdl_code.specs.declared.code.Op.TheVariants.{Loop}
+use Rattle.pdl_code.specs.declared.code.Op.TheVariants.{Loop, SizedField}
 use Rattle.pdl_code.specs.declared.code.ProtoCode.{ProtoCode}
 use Rattle.decode_vm.specs.declared.machine.Again.TheVariants as again
 use Rattle.decode_vm.specs.declared.machine.Machine.{Machine}
 use Rattle.decode_vm.specs.declared.machine.Mode.TheVariants as mode
 use Rattle.decode_vm.specs.Left.{Doing, Running, Moves, Refuses, StepsTo}
-use Rattle.decode_vm.specs.Machine.{place_behind, in_mode, tested, under}
+use Rattle.decode_vm.specs.Machine.{place_behind, in_mode, at_env, tested, under, Ran}
+use Rattle.decode_vm.specs.Sound.{olds_in, olds_of, Sound}
 use Rattle.decode_vm.specs.Values.{Gave, Valued}
 use Rattle.decode_vm.proofs.Ahead.{get_within}
 use Rattle.decode_vm.proofs.Moves.{refuses_here, refuses_after}
+use Rattle.decode_vm.proofs.Operations.{begins_sized, part_some}
+use Rattle.decode_vm.proofs.Positions.{keeps_env, sound_by, sound_of, sound_kept}
 use Rattle.decode_vm.proofs.Turns.{same_kind, moves_while, begins_count, moves_count, SizeStep, begins_size, moves_size, WhileStep, begins_while, moves_tested}
 
 module _ (db : Database) (fields : List Text) (code : ProtoCode) where
@@ -71,3 +77,21 @@ module _ (db : Database) (fields : List Text) (code : ProtoCode) where
   is_while at body after a k v m c l e r f =
       let g = subst (λ y. Doing db fields code m.frame.env.turns y r.left.run) e r.left.doing in
       f ∙ ap (λ (x : LoopKind). Some (Loop x v a)) (same_kind (slice_get code.ops at) k kind.While v g.0.left.value a g.0.left.after f g.0.left.stands)
+
+  -- a field whose size is a value
+  pub sized_some : (pc number' : ℕ) (size : Expr) (v d : ℕ) (x : Option ℕ) (m o n : Machine) (c : Session) (l : Option Log) (c' : Session) (l' : Option Log) {A : Type 0} (r : Result A NoMemory) → m.mode ≡ mode.At pc → slice_get code.ops pc ≡ Some (SizedField number' size) → x ≡ Some v
+      → Valued db (number db fields size) m c l (Ok x) o c' l' → d ≡ place_behind code pc 0 → OnOk r (Ran (place_field Variable number' v) d o n) → StepsTo db fields code m c l r n c' l'
+  sized_some pc number' size v d x m o n c l c' l' r e s f g h q = by r q
+    where
+      by : {B : Type 0} (u : Result B NoMemory) → OnOk u (Ran (place_field Variable number' v) d o n) → StepsTo db fields code m c l u n c' l'
+      by (Ok a) q =
+          part_some db fields code (number db fields size) (place_field Variable number') (SizedField number' size) pc v x m o n c l c' l' e s (begins_sized db fields code pc number' size v m e s) f g
+          (subst (λ y. Ran (place_field Variable number' v) y o n) h q)
+      by (Err b) q =
+          refuses_after db fields code (number db fields size) _ m c l c' l' (begins_sized db fields code pc number' size v m e s) v o n b (subst (λ y. Valued db (number db fields size) m c l (Ok y) o c' l') f g)
+
+  -- an evaluation leaves positions sound
+  pub sound_value : {A : Type 0} (q : Eval A) (v : A) (m o : Machine) (c : Session) (l : Option Log) (c' : Session) (l' : Option Log) → Sound m → Gave db q m c l v o c' l' → Sound o
+  sound_value q v m o c l c' l' s g =
+      let os = olds_in m.mode (olds_of (reverse m.held)) in
+      subst Sound (sym g.is) (sound_by (at_env g.env m) os (reverse m.held) refl refl (sound_kept m.frame (at_env g.env m).frame os (reverse m.held) (keeps_env m.frame g.env g.stays) (sound_of m os (reverse m.held) refl refl s)))

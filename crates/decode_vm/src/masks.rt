@@ -32,8 +32,11 @@ fn fill(alloc: Global, sizes: &[KeyDecl], keys: &[UpdateKey]) -> Result<Keys, No
     ensures { IfOk result (λ m. m ≡ filled (map (λ k. k.size) sizes.now) (map (λ k. k.mask) keys.now)) }
 {
     let mut masks = Keys::new(alloc);
-    for (size, key) in sizes.iter().zip(keys) {
-        masks.push(mask(alloc, size.size, &key.mask)?)?;
+    for (i, size) in sizes.iter().enumerate() {
+        match sqlite_items::at(keys, i) {
+            Some(key) => masks.push(mask(alloc, size.size, &key.mask)?)?,
+            None => return Ok(masks),
+        }
     }
     Ok(masks)
 }
