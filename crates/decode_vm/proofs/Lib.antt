@@ -9,3 +9,4 @@ pub mod Settled
 pub mod Operations
 pub mod Entered
 pub mod Fields
+pub mod Updates
