@@ -10,3 +10,4 @@ pub mod Operations
 pub mod Entered
 pub mod Fields
 pub mod Updates
+pub mod Fits

@@ -1,13 +1,13 @@
 -- How the keys and the row of an update are put together.
-use Rattle.std.specs.Prelude.{◌≡◌, ℕ, zero, suc, ◌+◌, ◌<◌, ◌≤◌, Bool, true, false, ◌==◌, List, [], ◌∷◌, ◌++◌, length, drop, Option, Some, None, Result, Ok, Err}
-use Rattle.std.proofs.Common.{refl, sym, ap, subst, ◌∙◌, arith}
+use Rattle.std.specs.Prelude.{◌≡◌, ℕ, zero, suc, ◌+◌, ◌<◌, ◌≤◌, Bool, true, false, ◌==◌, List, [], ◌∷◌, ◌++◌, length, drop, replicate, slice_get, unwrap_or, Option, Some, None, Result, Ok, Err}
+use Rattle.std.proofs.Common.{refl, sym, ap, subst, ◌∙◌, arith, append_assoc, append-nil}
 use Rattle.db_model.specs.declared.database.ColumnDecl.{ColumnDecl}
 use Rattle.db_model.specs.declared.database.Database.{Database}
 use Rattle.db_model.specs.declared.env.Env.{Env}
 use Rattle.db_model.specs.declared.tree.Reason.{Reason}
 use Rattle.db_model.specs.declared.tree.Reason.TheVariants as reason
 use Rattle.db_model.specs.declared.value.Value.{Value}
-use Rattle.db_model.specs.Elements.{row_from, fits_column}
+use Rattle.db_model.specs.Elements.{row_from, fits_column, filled}
 use Rattle.db_model.specs.Expression.{Eval, ◌>>=◌, result, buf, when, keys_from, taken_as}
 use Rattle.db_model.specs.Over.{Point}
 use Rattle.db_model.specs.Table.{KeyList}
@@ -69,3 +69,58 @@ module _ (db : Database) (protocols : ℕ) (columns : List ColumnDecl) (parts : 
   data_made v w k h g = record {
     goes = λ o l r. s.goes o l (then_ok db _ v h (then_ok db (λ (b : Value). row_from protocols (row ++ b ∷ []) left rest) {f = itself} w (gives db (as_column protocols c v) g) r));
   }
+
+pub row_begin : (db : Database) (protocols : ℕ) (columns : List ColumnDecl) (parts : List (Eval Value)) (m : Point Env) → RowLeft db protocols columns parts m [] columns parts m
+row_begin db protocols columns parts m = record { goes = λ o k h. h }
+
+pub row_end : (db : Database) (protocols : ℕ) (columns : List ColumnDecl) (parts : List (Eval Value)) (m : Point Env) (row : List Value) (rest : List (Eval Value)) (n : Point Env) → RowLeft db protocols columns parts m row [] rest n → Evaluates db (row_from protocols [] columns parts) itself m (Ok row) n
+row_end db protocols columns parts m row rest n s = s.goes (Ok row) n (gives db (Ok row) refl)
+
+pub data_missing : (db : Database) (protocols : ℕ) (columns : List ColumnDecl) (parts : List (Eval Value)) (m : Point Env) (row : List Value) (left : List ColumnDecl) (n : Point Env) → 0 < length left → RowLeft db protocols columns parts m row left [] n → Evaluates db (row_from protocols [] columns parts) itself m (Err (end.Fault reason.DataSize)) n
+data_missing db protocols columns parts m row [] n l s = absurd (omega arith)
+data_missing db protocols columns parts m row (c ∷ left) n l s = s.goes (Err (end.Fault reason.DataSize)) n (gives db (Err reason.DataSize) refl)
+
+pub row_at : (db : Database) (protocols : ℕ) (columns : List ColumnDecl) (parts : List (Eval Value)) (m : Point Env) (row : List Value) (i : ℕ) (c : ColumnDecl) (p : Eval Value) (n : Point Env) → drop i columns ≡ c ∷ drop (i + 1) columns → drop i parts ≡ p ∷ drop (i + 1) parts
+    → RowLeft db protocols columns parts m row (drop i columns) (drop i parts) n → RowLeft db protocols columns parts m row (c ∷ drop (i + 1) columns) (p ∷ drop (i + 1) parts) n
+row_at db protocols columns parts m row i c p n e f s =
+    subst (λ (l : List ColumnDecl). RowLeft db protocols columns parts m row l (p ∷ drop (i + 1) parts) n) e (subst (λ (r : List (Eval Value)). RowLeft db protocols columns parts m row (drop i columns) r n) f s)
+
+-- ---- lists from a place on
+
+pub some_from : {A : Type 0} (xs : List A) (i : ℕ) (x : A) → slice_get xs i ≡ Some x → drop i xs ≡ x ∷ drop (i + 1) xs
+some_from [] i x e = (cc)
+some_from (y ∷ ys) zero x e = let same : y ≡ x = cc in ap (λ z. z ∷ ys) same
+some_from (y ∷ ys) (suc i) x e = let k : suc (i + 1) ≡ suc i + 1 = omega arith in some_from ys i x e ∙ ap (λ n. x ∷ drop n (y ∷ ys)) k
+
+pub none_from : {A : Type 0} (xs : List A) (i : ℕ) → slice_get xs i ≡ None → drop i xs ≡ []
+none_from [] zero e = refl
+none_from [] (suc i) e = refl
+none_from (y ∷ ys) zero e = (cc)
+none_from (y ∷ ys) (suc i) e = none_from ys i e
+
+pub past_from : {A : Type 0} (xs : List A) (i : ℕ) → length xs ≤ i → drop i xs ≡ []
+past_from [] zero l = refl
+past_from [] (suc i) l = refl
+past_from (x ∷ xs) zero l = absurd (omega arith)
+past_from (x ∷ xs) (suc i) l = past_from xs i (omega arith)
+
+pub some_left_from : {A : Type 0} (xs : List A) (i : ℕ) → i < length xs → 0 < length (drop i xs)
+some_left_from [] i l = absurd (omega arith)
+some_left_from (x ∷ xs) zero l = omega arith
+some_left_from (x ∷ xs) (suc i) l = some_left_from xs i (omega arith)
+
+-- ---- masks
+
+filled_none : (ss : List ℕ) → filled ss [] ≡ []
+filled_none [] = refl
+filled_none (s ∷ ss) = refl
+
+pub fill_none : (ss : List ℕ) (ms : List (Option (List ℕ))) (masks all : KeyList) → ms ≡ [] → masks ++ filled ss ms ≡ all → masks ≡ all
+fill_none ss ms masks all e h = sym (append-nil masks) ∙ (ap (λ (l : KeyList). masks ++ l) (sym (ap (filled ss) e ∙ filled_none ss)) ∙ h)
+
+pub fill_more : (sizes : List ℕ) (ms : List (Option (List ℕ))) (masks : KeyList) (i size : ℕ) (m : Option (List ℕ)) (x : List ℕ) (all : KeyList) → drop i sizes ≡ size ∷ drop (i + 1) sizes → drop i ms ≡ m ∷ drop (i + 1) ms → x ≡ unwrap_or m (replicate size 255)
+    → masks ++ filled (drop i sizes) (drop i ms) ≡ all → (masks ++ x ∷ []) ++ filled (drop (i + 1) sizes) (drop (i + 1) ms) ≡ all
+fill_more sizes ms masks i size m x all e f g h =
+    append_assoc masks (x ∷ []) (filled (drop (i + 1) sizes) (drop (i + 1) ms))
+    ∙ (ap (λ (y : List ℕ). masks ++ y ∷ filled (drop (i + 1) sizes) (drop (i + 1) ms)) g
+    ∙ (ap (λ (l : KeyList). masks ++ l) (sym (ap (λ (l : List ℕ). filled l (drop i ms)) e ∙ ap (filled (size ∷ drop (i + 1) sizes)) f)) ∙ h))
