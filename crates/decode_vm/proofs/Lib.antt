@@ -11,3 +11,7 @@ pub mod Entered
 pub mod Fields
 pub mod Updates
 pub mod Fits
+pub mod Added
+pub mod Updated
+pub mod Acts
+pub mod Stepping

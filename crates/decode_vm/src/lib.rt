@@ -5,6 +5,7 @@ mod act;
 mod choose;
 mod enter;
 mod field;
+mod list;
 mod machine;
 mod masks;
 mod resume;
@@ -14,4 +15,5 @@ mod turn;
 mod update;
 mod values;
 
+pub use list::{Ended, run};
 pub use steps::Steps;

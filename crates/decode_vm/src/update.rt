@@ -50,7 +50,7 @@ pub fn update<A: Answers>(
     let env = &mut m.frame.env;
     let answer = added(alloc, db, protocol, table, validity, keep, hit, keys, row, env, answers);
     match settle(m, answer)? {
-        Some(_) => {
+        Some(_done) => {
             m.mode = Mode::At(behind(code, pc, 0));
             Ok(())
         }
