@@ -1,5 +1,5 @@
 -- The operations that evaluate nothing.
-use Rattle.std.specs.Prelude.{◌≡◌, ℕ, zero, suc, ◌+◌, ◌<◌, List, [], ◌∷◌, ◌++◌, length, slice_get, Option, Some, None, IsSome, Result, Ok, Err, OnOk}
+use Rattle.std.specs.Prelude.{◌≡◌, ℕ, zero, suc, ◌<◌, List, [], ◌∷◌, length, slice_get, Option, Some, None, IsSome, Result, Ok, Err, OnOk}
 use Rattle.std.proofs.Common.{refl, sym, ap, subst, ◌∙◌, append-nil, arith}
 use Rattle.db_model.specs.declared.database.Database.{Database}
 use Rattle.db_model.specs.declared.element.LoopControl.{LoopControl}
@@ -8,7 +8,7 @@ use Rattle.db_model.specs.declared.element.UpdateKey.{UpdateKey}
 use Rattle.db_model.specs.declared.element.UpdateValue.{UpdateValue}
 use Rattle.db_model.specs.declared.entry.Validity.{Validity}
 use Rattle.db_model.specs.declared.env.Way.{Way}
-use Rattle.db_model.specs.declared.env.Way.TheVariants.{Next, Break, Continue}
+use Rattle.db_model.specs.declared.env.Way.TheVariants.{Break, Continue}
 use Rattle.db_model.specs.declared.field_kind.FieldKind.{FieldKind}
 use Rattle.db_model.specs.declared.no_memory.NoMemory.{NoMemory}
 use Rattle.db_model.specs.declared.tree.Node.{Node}
@@ -111,6 +111,6 @@ module _ (db : Database) (fields : List Text) (code : ProtoCode) where
         moves start f =
             moves_opened db fields code start.number start.at (place_behind code pc 0) pc m c l e (get_within code.ops pc (Include b) s)
             (λ r d.
-                let j : DoesInclude db fields code b pc r = invert db fields code (Include b) pc r s d in
-                let same : j.start ≡ start = same_start j.start start (slice_get code.blocks b) j.stands f in
-                (j.body, j.rest, j.is ∙ ap (λ (y : BlockStart). block y.number j.body then go j.rest) same, subst (λ (y : BlockStart). Does db fields code y.at j.body) same j.at_body, at_place db fields code pc 0 j.rest j.at_rest))
+            let j : DoesInclude db fields code b pc r = invert db fields code (Include b) pc r s d in
+            let same : j.start ≡ start = same_start j.start start (slice_get code.blocks b) j.stands f in
+            (j.body, j.rest, j.is ∙ ap (λ (y : BlockStart). block y.number j.body then go j.rest) same, subst (λ (y : BlockStart). Does db fields code y.at j.body) same j.at_body, at_place db fields code pc 0 j.rest j.at_rest))

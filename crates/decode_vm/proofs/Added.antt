@@ -2,7 +2,6 @@
 use Rattle.std.specs.Prelude.{◌≡◌, ℕ, List, [], map, length, unwrap_or, Option, Some, None, Result, Ok, Err}
 use Rattle.std.proofs.Common.{refl, sym, ap, subst, ◌∙◌}
 use Rattle.db_model.specs.declared.database.Database.{Database}
-use Rattle.db_model.specs.declared.database.KeyDecl.{KeyDecl}
 use Rattle.db_model.specs.declared.database.TableDecl.{TableDecl}
 use Rattle.db_model.specs.declared.element.UpdateKey.{UpdateKey}
 use Rattle.db_model.specs.declared.element.UpdateValue.{UpdateValue}

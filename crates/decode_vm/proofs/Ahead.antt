@@ -1,6 +1,6 @@
 -- How what is left of a run goes on.
 use Rattle.std.specs.Prelude.{◌≡◌, ℕ, zero, suc, ◌+◌, ◌<◌, ◌≤◌, min, List, [], ◌∷◌, ◌++◌, length, reverse, slice_get, Option, Some, Result, Ok, Err}
-use Rattle.std.proofs.Common.{refl, sym, ap, subst, ◌∙◌, append_assoc, append-nil, arith}
+use Rattle.std.proofs.Common.{refl, sym, ap, subst, ◌∙◌, arith}
 use Rattle.db_model.specs.declared.database.Database.{Database}
 use Rattle.db_model.specs.declared.env.Env.{Env}
 use Rattle.db_model.specs.declared.env.Frame.{Frame}
@@ -13,12 +13,11 @@ use Rattle.db_model.specs.declared.tree.Node.TheVariants.{Note}
 use Rattle.db_model.specs.declared.tree.Reason.{Reason}
 use Rattle.db_model.specs.Expression.{Eval}
 use Rattle.db_model.specs.Names.{Text}
-use Rattle.db_model.specs.Over.{Point, point, Ends, Leads}
-use Rattle.db_model.specs.Questions.{Asks, Gives, Asking, and_then, Log, play, Step, pure, ◌then◌}
-use Rattle.db_model.specs.Runs.{Went, Run, leave, halt, behind, go_on, go, within, or_halt, evaluated}
+use Rattle.db_model.specs.Over.{Point, point, Ends}
+use Rattle.db_model.specs.Questions.{Asks, Gives, Asking, and_then, Log, play, ◌then◌}
+use Rattle.db_model.specs.Runs.{Went, Run, leave, halt, go_on, go, within, or_halt, evaluated}
 use Rattle.db_model.specs.Session.{Session, ask}
 use Rattle.db_model.proofs.Over.{ends_refused, ends_first, leads_on, leads_same, leads_move, leads_then}
-use Rattle.pdl_code.specs.declared.code.Op.{Op}
 use Rattle.pdl_code.specs.declared.code.ProtoCode.{ProtoCode}
 use Rattle.pdl_code.specs.Does.{Does, over, plain, jumps, tests, switches, blocks, includes, loops}
 use Rattle.expr_eval.specs.Evaluates.{Stays}
@@ -27,10 +26,9 @@ use Rattle.decode_vm.specs.declared.machine.Again.TheVariants as again
 use Rattle.decode_vm.specs.declared.machine.Held.{Held}
 use Rattle.decode_vm.specs.declared.machine.Held.TheVariants as held
 use Rattle.decode_vm.specs.declared.machine.Machine.{Machine}
-use Rattle.decode_vm.specs.declared.machine.Mode.{Mode}
 use Rattle.decode_vm.specs.declared.machine.Mode.TheVariants as mode
-use Rattle.decode_vm.specs.Left.{AllFit, Rest, onto, WhileLeft, SizeLeft, TurnsLeft, InLoop, Doing, BlockHeld, LoopHeld, Follow, Ahead, Left}
-use Rattle.decode_vm.specs.Machine.{place_behind, mode_behind, at_env, halted, Keeps, Ran}
+use Rattle.decode_vm.specs.Left.{AllFit, Rest, onto, TurnsLeft, InLoop, Follow, Ahead, Left}
+use Rattle.decode_vm.specs.Machine.{place_behind, mode_behind, at_env, halted, Ran}
 use Rattle.decode_vm.specs.Values.{Gave, Halts, Fails}
 use Rattle.decode_vm.proofs.Algebra.{then_assoc, onto_twice, onto_leave}
 

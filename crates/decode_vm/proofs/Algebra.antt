@@ -1,14 +1,14 @@
 -- How runs are put together.
-use Rattle.std.specs.Prelude.{◌≡◌, ℕ, zero, suc, ◌≤◌, Bool, true, false, if◌then◌else◌, List, [], ◌∷◌, ◌++◌, Result, Ok, Err}
-use Rattle.std.proofs.Common.{refl, sym, ap, subst, ◌∙◌, append_assoc, append-nil, arith}
+use Rattle.std.specs.Prelude.{◌≡◌, ℕ, zero, suc, if◌then◌else◌, List, [], ◌++◌, Result, Ok, Err}
+use Rattle.std.proofs.Common.{refl, sym, ap, ◌∙◌, append_assoc, append-nil}
 use Rattle.db_model.specs.declared.env.Frame.{Frame}
 use Rattle.db_model.specs.declared.env.Way.{Way}
 use Rattle.db_model.specs.declared.env.Way.TheVariants.{Next, Break, Continue, Chose, Stop}
 use Rattle.db_model.specs.declared.tree.Node.{Node}
 use Rattle.db_model.specs.declared.tree.Reason.{Reason}
-use Rattle.db_model.specs.Expression.{Eval, is_so}
+use Rattle.db_model.specs.Expression.{Eval}
 use Rattle.db_model.specs.Questions.{Asks, Gives, Asking, and_then, Step, pure, ◌then◌}
-use Rattle.db_model.specs.Runs.{Went, Run, leave, next, halt, behind, go_on, go, within, or_halt, evaluated, turned, with_turns, turn_at, turn, repeat}
+use Rattle.db_model.specs.Runs.{Went, Run, leave, behind, go_on, go, within, or_halt, evaluated, turned, with_turns, turn_at, turn}
 use Rattle.decode_vm.specs.Left.{Rest, onto}
 
 -- ---- computations one after another

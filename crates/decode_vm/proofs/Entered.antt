@@ -1,6 +1,6 @@
 -- The steps of a machine as functions answer them.
-use Rattle.std.specs.Prelude.{◌≡◌, ℕ, ◌+◌, ◌<◌, ◌≤◌, List, length, reverse, slice_get, Option, Some, None, Result, Ok, Err, OnOk}
-use Rattle.std.proofs.Common.{refl, sym, ap, subst, ◌∙◌, arith}
+use Rattle.std.specs.Prelude.{◌≡◌, ℕ, List, reverse, slice_get, Option, Some, Result, Ok, Err, OnOk}
+use Rattle.std.proofs.Common.{refl, sym, ap, subst, ◌∙◌}
 use Rattle.db_model.specs.declared.database.Database.{Database}
 use Rattle.db_model.specs.declared.element.LoopKind.{LoopKind}
 use Rattle.db_model.specs.declared.element.LoopKind.TheVariants as kind
@@ -18,7 +18,7 @@ use Rattle.pdl_code.specs.declared.code.ProtoCode.{ProtoCode}
 use Rattle.decode_vm.specs.declared.machine.Again.TheVariants as again
 use Rattle.decode_vm.specs.declared.machine.Machine.{Machine}
 use Rattle.decode_vm.specs.declared.machine.Mode.TheVariants as mode
-use Rattle.decode_vm.specs.Left.{Doing, Running, Moves, Refuses, StepsTo}
+use Rattle.decode_vm.specs.Left.{Doing, Running, Moves, StepsTo}
 use Rattle.decode_vm.specs.Machine.{place_behind, in_mode, at_env, tested, under, Ran}
 use Rattle.decode_vm.specs.Sound.{olds_in, olds_of, Sound}
 use Rattle.decode_vm.specs.Values.{Gave, Valued}
@@ -26,7 +26,7 @@ use Rattle.decode_vm.proofs.Ahead.{get_within}
 use Rattle.decode_vm.proofs.Moves.{refuses_here, refuses_after}
 use Rattle.decode_vm.proofs.Operations.{begins_sized, part_some}
 use Rattle.decode_vm.proofs.Positions.{keeps_env, sound_by, sound_of, sound_kept}
-use Rattle.decode_vm.proofs.Turns.{same_kind, moves_while, begins_count, moves_count, SizeStep, begins_size, moves_size, WhileStep, begins_while, moves_tested}
+use Rattle.decode_vm.proofs.Turns.{same_kind, moves_while, moves_count, SizeStep, begins_size, moves_size, WhileStep, begins_while, moves_tested}
 
 module _ (db : Database) (fields : List Text) (code : ProtoCode) where
   -- a step that asks nothing, or was refused memory

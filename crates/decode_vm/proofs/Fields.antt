@@ -1,5 +1,5 @@
 -- How a field is placed.
-use Rattle.std.specs.Prelude.{◌≡◌, ℕ, zero, suc, ◌+◌, ◌-◌, ◌%◌, ◌<◌, ◌≤◌, Bool, true, false, if◌then◌else◌, nat_le, ◌==◌, List, [], ◌∷◌, ◌++◌, length, Option, Some, None, Result, Ok, Err, OnOk}
+use Rattle.std.specs.Prelude.{◌≡◌, ℕ, zero, suc, ◌+◌, ◌-◌, ◌%◌, ◌≤◌, Bool, true, false, if◌then◌else◌, nat_le, ◌==◌, List, [], ◌∷◌, Option, Some, None, Result, Ok, Err, OnOk}
 use Rattle.std.proofs.Common.{refl, sym, ap, subst, ◌∙◌, arith}
 use Rattle.std.proofs.lemmas.Bool.{leb-true}
 use Rattle.db_model.specs.declared.field_kind.FieldKind.{FieldKind}
@@ -9,14 +9,13 @@ use Rattle.db_model.specs.declared.tree.Node.TheVariants.{Field, Note}
 use Rattle.db_model.specs.declared.tree.Reason.{Reason}
 use Rattle.db_model.specs.declared.tree.Reason.TheVariants as reason
 use Rattle.db_model.specs.Extent.{size, extent, step_by}
-use Rattle.db_model.specs.Runs.{Run, halt, spend_node, node_at, field_value, add_field, sized_field, place_field}
-use Rattle.fields.specs.declared.outcome.Extent.{Extent}
+use Rattle.db_model.specs.Runs.{Run, halt, spend_node, node_at, field_value, add_field}
 use Rattle.fields.specs.declared.outcome.Extent.TheVariants.{Size, Short}
 use Rattle.fields.specs.Outcome.{outcome}
 use Rattle.decode_vm.specs.declared.machine.Machine.{Machine}
 use Rattle.decode_vm.specs.Field.{IsSized, behind_field, fielded}
-use Rattle.decode_vm.specs.Machine.{at_frame, halted, Keeps, Ran}
-use Rattle.decode_vm.specs.Sound.{Rising, Sound}
+use Rattle.decode_vm.specs.Machine.{at_frame, halted, Ran}
+use Rattle.decode_vm.specs.Sound.{Rising}
 use Rattle.decode_vm.proofs.Positions.{keeps_same}
 
 -- what follows from a success

@@ -1,6 +1,6 @@
 -- Which questions an update may ask.
-use Rattle.std.specs.Prelude.{◌≡◌, ℕ, ◌+◌, List, [], ◌∷◌, ◌++◌, slice_get, Option, Some, None, Result, Ok, Err}
-use Rattle.std.proofs.Common.{refl, sym, ap, subst, ◌∙◌, append-nil, arith}
+use Rattle.std.specs.Prelude.{◌≡◌, ℕ, List, [], slice_get, Option, Some, Result, Ok}
+use Rattle.std.proofs.Common.{refl, sym, ap, subst, ◌∙◌, append-nil}
 use Rattle.db_model.specs.declared.database.Database.{Database}
 use Rattle.db_model.specs.declared.element.UpdateKey.{UpdateKey}
 use Rattle.db_model.specs.declared.element.UpdateValue.{UpdateValue}
@@ -8,15 +8,14 @@ use Rattle.db_model.specs.declared.entry.Validity.{Validity}
 use Rattle.db_model.specs.declared.env.Env.{Env}
 use Rattle.db_model.specs.declared.env.Frame.{Frame}
 use Rattle.db_model.specs.declared.env.Way.TheVariants.{Next}
-use Rattle.db_model.specs.declared.question.Answer.{Answer}
 use Rattle.db_model.specs.declared.tree.Node.{Node}
 use Rattle.db_model.specs.declared.tree.Reason.{Reason}
 use Rattle.db_model.specs.Elements.{added}
 use Rattle.db_model.specs.Expression.{Eval, ◌>>=◌}
 use Rattle.db_model.specs.Names.{Text}
-use Rattle.db_model.specs.Over.{Point, point}
-use Rattle.db_model.specs.Questions.{Asks, Gives, and_then, Log, ◌then◌, on_ok}
-use Rattle.db_model.specs.Runs.{Went, Run, next, go, within, or_halt, evaluated}
+use Rattle.db_model.specs.Over.{Point}
+use Rattle.db_model.specs.Questions.{Gives, Log, ◌then◌, on_ok}
+use Rattle.db_model.specs.Runs.{Run, next, go, within, or_halt, evaluated}
 use Rattle.db_model.specs.Session.{Session}
 use Rattle.pdl_code.specs.declared.code.Op.TheVariants.{Update}
 use Rattle.pdl_code.specs.declared.code.ProtoCode.{ProtoCode}

@@ -1,6 +1,6 @@
 -- How blocks and loops are begun, and how a list that ended goes on with the one around it.
-use Rattle.std.specs.Prelude.{◌≡◌, ℕ, zero, suc, ◌+◌, ◌-◌, ◌<◌, ◌≤◌, Bool, true, false, if◌then◌else◌, nat_lt, nat_le, List, [], ◌∷◌, ◌++◌, length, reverse, slice_get, Option, Some, Result, Ok, Err}
-use Rattle.std.proofs.Common.{refl, sym, ap, subst, ◌∙◌, append_assoc, append-nil, arith}
+use Rattle.std.specs.Prelude.{◌≡◌, ℕ, zero, suc, ◌+◌, ◌-◌, Bool, true, false, if◌then◌else◌, nat_le, List, [], ◌∷◌, ◌++◌, reverse, Option}
+use Rattle.std.proofs.Common.{refl, sym, ap, subst, ◌∙◌, append-nil, arith}
 use Rattle.std.proofs.lemmas.List.{reverse-append}
 use Rattle.db_model.specs.declared.database.Database.{Database}
 use Rattle.db_model.specs.declared.env.Frame.{Frame}
@@ -9,11 +9,10 @@ use Rattle.db_model.specs.declared.env.Way.TheVariants.{Next, Break, Continue, C
 use Rattle.db_model.specs.declared.tree.Node.{Node}
 use Rattle.db_model.specs.declared.tree.Node.TheVariants.{Block, Note}
 use Rattle.db_model.specs.declared.tree.Reason.TheVariants as reason
-use Rattle.db_model.specs.Expression.{Eval, is_so}
 use Rattle.db_model.specs.Names.{Text}
-use Rattle.db_model.specs.Over.{Point, point}
+use Rattle.db_model.specs.Over.{Point}
 use Rattle.db_model.specs.Questions.{Asks, Gives, and_then, Log, pure, ◌then◌}
-use Rattle.db_model.specs.Runs.{Went, Run, leave, next, halt, behind, go, evaluated, node_at, closed, block, turned, with_turns, turn, count, repeat, looped, before_limit, limited, around, under_limit}
+use Rattle.db_model.specs.Runs.{Went, Run, leave, next, halt, behind, go, node_at, closed, block, turned, with_turns, turn, repeat, looped, before_limit, limited, around, under_limit}
 use Rattle.db_model.specs.Session.{Session}
 use Rattle.pdl_code.specs.declared.code.ProtoCode.{ProtoCode}
 use Rattle.pdl_code.specs.Does.{Does}
@@ -22,12 +21,11 @@ use Rattle.decode_vm.specs.declared.machine.Again.TheVariants as again
 use Rattle.decode_vm.specs.declared.machine.Held.{Held}
 use Rattle.decode_vm.specs.declared.machine.Held.TheVariants as held
 use Rattle.decode_vm.specs.declared.machine.Machine.{Machine}
-use Rattle.decode_vm.specs.declared.machine.Mode.{Mode}
 use Rattle.decode_vm.specs.declared.machine.Mode.TheVariants as mode
-use Rattle.decode_vm.specs.Left.{AllFit, Rest, onto, after_block, ending, of_loop, after_turn, WhileLeft, SizeLeft, TurnsLeft, InLoop, Doing, BlockHeld, LoopHeld, Follow, Ahead, Left}
-use Rattle.decode_vm.specs.Machine.{mode_behind, in_mode, at_frame, halted, restored, over, closed_to, turned_to, resumed}
-use Rattle.decode_vm.proofs.Algebra.{Passes, then_assoc, then_pure, behind_then, passes_pure, passes_go, passes_turned, passes_then, onto_is, onto_leave, turn_is}
-use Rattle.decode_vm.proofs.Ahead.{follow_less, ahead_move, ahead_same, left_leave, went}
+use Rattle.decode_vm.specs.Left.{Rest, onto, after_block, ending, of_loop, after_turn, TurnsLeft, BlockHeld, LoopHeld, Follow, Ahead, Left}
+use Rattle.decode_vm.specs.Machine.{mode_behind, in_mode, halted, restored, over, closed_to, turned_to}
+use Rattle.decode_vm.proofs.Algebra.{Passes, then_assoc, behind_then, passes_pure, passes_go, passes_turned, passes_then, onto_is, onto_leave, turn_is}
+use Rattle.decode_vm.proofs.Ahead.{follow_less, ahead_move, went}
 
 -- ---- loops and the nodes that are there
 

@@ -1,44 +1,33 @@
 -- The steps of a machine, each from what its code says.
-use Rattle.std.specs.Prelude.{◌≡◌, ℕ, zero, suc, ◌+◌, ◌-◌, ◌<◌, ◌≤◌, Bool, true, false, if◌then◌else◌, nat_lt, nat_le, ◌==◌, not, List, [], ◌∷◌, ◌++◌, length, reverse, slice_get, Option, Some, None, Result, Ok, Err}
+use Rattle.std.specs.Prelude.{◌≡◌, ℕ, zero, suc, ◌-◌, ◌<◌, ◌≤◌, Bool, true, false, if◌then◌else◌, nat_lt, ◌==◌, List, [], ◌∷◌, ◌++◌, length, Option}
 use Rattle.std.proofs.Common.{refl, sym, ap, subst, ◌∙◌, arith}
-use Rattle.std.proofs.lemmas.Bool.{leb-true}
 use Rattle.db_model.specs.declared.database.Database.{Database}
-use Rattle.db_model.specs.declared.element.LoopControl.{LoopControl}
-use Rattle.db_model.specs.declared.element.LoopKind.TheVariants as kind
 use Rattle.db_model.specs.declared.env.Frame.{Frame}
-use Rattle.db_model.specs.declared.env.Way.{Way}
-use Rattle.db_model.specs.declared.env.Way.TheVariants.{Next, Break, Continue, Chose, Stop}
-use Rattle.db_model.specs.declared.expression.Expr.{Expr}
 use Rattle.db_model.specs.declared.no_memory.NoMemory.{NoMemory}
-use Rattle.db_model.specs.declared.tree.Node.{Node}
 use Rattle.db_model.specs.declared.tree.Reason.TheVariants as reason
-use Rattle.db_model.specs.Elements.{number, loop_by}
 use Rattle.db_model.specs.Expression.{Eval, is_so}
 use Rattle.db_model.specs.Names.{Text}
-use Rattle.db_model.specs.Over.{Point, point, Ends}
-use Rattle.db_model.specs.Questions.{Asks, Gives, Log, pure, ◌then◌}
-use Rattle.db_model.specs.Runs.{Went, Run, leave, next, halt, go, evaluated, block, with_turns, turn, count, repeat, before_limit}
+use Rattle.db_model.specs.Over.{Point}
+use Rattle.db_model.specs.Questions.{Log, ◌then◌}
+use Rattle.db_model.specs.Runs.{Run, next, halt, go, evaluated, block, with_turns, turn, count, repeat, before_limit}
 use Rattle.db_model.specs.Session.{Session}
-use Rattle.pdl_code.specs.declared.code.Op.{Op}
-use Rattle.pdl_code.specs.declared.code.Op.TheVariants.{End, Jump, Loop}
 use Rattle.pdl_code.specs.declared.code.ProtoCode.{ProtoCode}
 use Rattle.pdl_code.specs.Does.{Does}
 use Rattle.decode_vm.specs.declared.machine.Again.{Again}
 use Rattle.decode_vm.specs.declared.machine.Again.TheVariants as again
-use Rattle.decode_vm.specs.declared.machine.Held.{Held}
 use Rattle.decode_vm.specs.declared.machine.Held.TheVariants as held
 use Rattle.decode_vm.specs.declared.machine.Machine.{Machine}
 use Rattle.decode_vm.specs.declared.machine.Mode.{Mode}
 use Rattle.decode_vm.specs.declared.machine.Mode.TheVariants as mode
-use Rattle.decode_vm.specs.Cost.{place, of_mode}
-use Rattle.decode_vm.specs.Left.{Rest, onto, ending, of_loop, TurnsLeft, InLoop, Doing, Follow, Ahead, Left, Nearer, Moves, Refuses}
-use Rattle.decode_vm.specs.Machine.{place_behind, mode_behind, in_mode, at_env, halted, opened, restored, spent, over, counted, tested, sized, under, closed_to, turned_to, resumed, Ran}
-use Rattle.decode_vm.specs.Sound.{olds_of, olds_in}
+use Rattle.decode_vm.specs.Cost.{of_mode}
+use Rattle.decode_vm.specs.Left.{Rest, of_loop, TurnsLeft, Doing, Ahead, Left, Nearer, Moves, Refuses}
+use Rattle.decode_vm.specs.Machine.{place_behind, in_mode, at_env, halted, opened, restored, spent, over, counted, sized, Ran}
+use Rattle.decode_vm.specs.Sound.{olds_in}
 use Rattle.decode_vm.specs.Values.{Gave, Halts, Fails}
-use Rattle.decode_vm.proofs.Algebra.{then_assoc, then_pure, evaluated_then, turn_is, no_turn}
-use Rattle.decode_vm.proofs.Ahead.{ahead_move, ahead_same, ahead_value, ahead_refused, left_reason, left_ran, ends_failed}
-use Rattle.decode_vm.proofs.Lists.{turn_over, left_opened, left_unopened, left_spent, left_over, left_unspent, left_closed, left_turned, left_under, left_short}
-use Rattle.decode_vm.proofs.Nearer.{is_zero, not_zero, near_env, near_mode, near_halted, near_ran, near_opened, near_over, near_spent, near_unspent, near_under, near_closed, near_turned}
+use Rattle.decode_vm.proofs.Algebra.{no_turn}
+use Rattle.decode_vm.proofs.Ahead.{ahead_same, ahead_value, ahead_refused, left_reason, left_ran, ends_failed}
+use Rattle.decode_vm.proofs.Lists.{left_opened, left_unopened, left_spent, left_over, left_unspent}
+use Rattle.decode_vm.proofs.Nearer.{is_zero, not_zero, near_env, near_mode, near_halted, near_ran, near_opened, near_over, near_spent, near_unspent}
 
 module _ (db : Database) (fields : List Text) (code : ProtoCode) where
   -- what the machine is about to do begins with this evaluation, and P holds of what follows it

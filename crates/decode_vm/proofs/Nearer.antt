@@ -1,5 +1,5 @@
 -- What the steps of a machine do to its positions, and that they lead to an end.
-use Rattle.std.specs.Prelude.{◌≡◌, ℕ, zero, suc, ◌+◌, ◌-◌, ◌*◌, ◌<◌, ◌≤◌, min, Bool, true, false, if◌then◌else◌, nat_lt, nat_le, ◌==◌, List, [], ◌∷◌, ◌++◌, length, reverse}
+use Rattle.std.specs.Prelude.{◌≡◌, ℕ, zero, suc, ◌+◌, ◌-◌, ◌*◌, ◌<◌, ◌≤◌, Bool, true, false, if◌then◌else◌, nat_le, ◌==◌, List, [], ◌∷◌, ◌++◌, length, reverse}
 use Rattle.std.proofs.Common.{refl, sym, ap, subst, ◌∙◌, arith}
 use Rattle.std.proofs.lemmas.Bool.Decides.{Decides-eqb}
 use Rattle.db_model.specs.declared.env.Env.{Env}
@@ -21,10 +21,10 @@ use Rattle.decode_vm.specs.declared.machine.Mode.{Mode}
 use Rattle.decode_vm.specs.declared.machine.Mode.TheVariants as mode
 use Rattle.decode_vm.specs.Cost.{place, of_mode, of_held, for_each, of_all, cost}
 use Rattle.decode_vm.specs.Left.{Nearer}
-use Rattle.decode_vm.specs.Machine.{place_behind, mode_behind, in_mode, at_env, at_frame, halted, opened, restored, spent, over, under, closed_to, turned_to, Keeps, Ran}
-use Rattle.decode_vm.specs.Sound.{Rising, old_before, olds_of, olds_in, BegunBefore, Sound}
+use Rattle.decode_vm.specs.Machine.{place_behind, mode_behind, in_mode, at_env, halted, opened, restored, spent, over, closed_to, turned_to, Keeps, Ran}
+use Rattle.decode_vm.specs.Sound.{old_before, olds_of, olds_in}
 use Rattle.decode_vm.proofs.Lists.{turn_over}
-use Rattle.decode_vm.proofs.Positions.{keeps_same, keeps_env, olds_behind, begun_later, SoundOn, sound_by, sound_of, sound_kept, less_mode, less_begun, less_ended, nearer, less_behind}
+use Rattle.decode_vm.proofs.Positions.{keeps_same, keeps_env, olds_behind, SoundOn, sound_by, sound_of, sound_kept, less_mode, less_begun, less_ended, less_behind}
 
 -- ---- tests
 

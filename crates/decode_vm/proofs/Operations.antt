@@ -1,47 +1,37 @@
 -- The operations that evaluate: what each begins with, and what it makes of a value.
-use Rattle.std.specs.Prelude.{◌≡◌, ℕ, ◌+◌, ◌-◌, ◌<◌, ◌≤◌, List, [], ◌∷◌, ◌++◌, length, slice_get, slice_set, Option, Some, None, Result, Ok, Err}
+use Rattle.std.specs.Prelude.{◌≡◌, ℕ, ◌<◌, List, [], length, slice_get, slice_set, Option, Some, None, Result, Ok, Err}
 use Rattle.std.proofs.Common.{refl, sym, ap, subst, ◌∙◌, append-nil, arith}
 use Rattle.db_model.specs.declared.database.Database.{Database}
-use Rattle.db_model.specs.declared.element.LoopKind.{LoopKind}
-use Rattle.db_model.specs.declared.element.LoopKind.TheVariants as kind
-use Rattle.db_model.specs.declared.element.UpdateKey.{UpdateKey}
-use Rattle.db_model.specs.declared.element.UpdateValue.{UpdateValue}
-use Rattle.db_model.specs.declared.entry.Validity.{Validity}
-use Rattle.db_model.specs.declared.env.Frame.{Frame}
-use Rattle.db_model.specs.declared.env.Way.{Way}
 use Rattle.db_model.specs.declared.env.Way.TheVariants.{Next, Chose}
 use Rattle.db_model.specs.declared.expression.Expr.{Expr}
 use Rattle.db_model.specs.declared.field_kind.CaseRange.{CaseRange}
 use Rattle.db_model.specs.declared.field_kind.FieldKind.TheVariants.{Variable}
 use Rattle.db_model.specs.declared.no_memory.NoMemory.{NoMemory}
-use Rattle.db_model.specs.declared.question.Answer.{Answer}
 use Rattle.db_model.specs.declared.value.Value.{Value}
-use Rattle.db_model.specs.Elements.{number, set_variable, added}
+use Rattle.db_model.specs.Elements.{number, set_variable}
 use Rattle.db_model.specs.Expression.{Eval, proto, val}
 use Rattle.db_model.specs.Names.{Text}
-use Rattle.db_model.specs.Over.{Point, point}
 use Rattle.db_model.specs.Questions.{Log, ◌then◌}
-use Rattle.db_model.specs.Runs.{Run, leave, next, go, evaluated, place_field}
+use Rattle.db_model.specs.Runs.{Run, leave, go, evaluated, place_field}
 use Rattle.db_model.specs.Session.{Session}
 use Rattle.pdl_code.specs.declared.code.Op.{Op}
-use Rattle.pdl_code.specs.declared.code.Op.TheVariants.{SizedField, Assign, Update, NextProto, Test, Switch, Loop}
+use Rattle.pdl_code.specs.declared.code.Op.TheVariants.{SizedField, Assign, NextProto, Test, Switch}
 use Rattle.pdl_code.specs.declared.code.ProtoCode.{ProtoCode}
 use Rattle.pdl_code.specs.Does.{unless_so, target, act, Does}
 use Rattle.pdl_code.specs.Means.{DoesPlain, DoesTest, DoesSwitch}
 use Rattle.pdl_code.proofs.Inversion.{invert}
 use Rattle.decode_vm.specs.declared.machine.Again.TheVariants as again
 use Rattle.decode_vm.specs.declared.machine.Machine.{Machine}
-use Rattle.decode_vm.specs.declared.machine.Mode.{Mode}
 use Rattle.decode_vm.specs.declared.machine.Mode.TheVariants as mode
 use Rattle.decode_vm.specs.Cost.{of_mode}
 use Rattle.decode_vm.specs.Left.{Doing, Moves, Refuses, StepsTo}
-use Rattle.decode_vm.specs.Machine.{place_behind, in_mode, Keeps, Ran}
+use Rattle.decode_vm.specs.Machine.{place_behind, in_mode, Ran}
 use Rattle.decode_vm.specs.Sound.{olds_in}
-use Rattle.decode_vm.specs.Values.{Gave, Halts, Fails, Valued}
+use Rattle.decode_vm.specs.Values.{Gave, Valued}
 use Rattle.decode_vm.proofs.Algebra.{evaluated_then}
 use Rattle.decode_vm.proofs.Ahead.{get_within, at_place}
-use Rattle.decode_vm.proofs.Moves.{Begins, refuses_failed, refuses_after, moves_halted, moves_chosen, moves_ran_value}
-use Rattle.decode_vm.proofs.Positions.{keeps_same, nearer}
+use Rattle.decode_vm.proofs.Moves.{Begins, refuses_failed, moves_halted, moves_chosen, moves_ran_value}
+use Rattle.decode_vm.proofs.Positions.{nearer}
 
 module _ (db : Database) (fields : List Text) (code : ProtoCode) where
   -- ---- whatever is evaluated

@@ -1,7 +1,6 @@
 -- How positions stay sound, and how a machine comes nearer to its end.
-use Rattle.std.specs.Prelude.{◌≡◌, ℕ, zero, suc, ◌+◌, ◌-◌, ◌*◌, ◌<◌, ◌≤◌, min, List, [], ◌∷◌, ◌++◌, length, reverse}
+use Rattle.std.specs.Prelude.{◌≡◌, ℕ, ◌+◌, ◌-◌, ◌*◌, ◌<◌, ◌≤◌, min, List, [], ◌∷◌, ◌++◌, length, reverse}
 use Rattle.std.proofs.Common.{refl, sym, ap, subst, ◌∙◌, arith}
-use Rattle.std.proofs.lemmas.List.{reverse-append}
 use Rattle.db_model.specs.declared.env.Env.{Env}
 use Rattle.db_model.specs.declared.env.Frame.{Frame}
 use Rattle.db_model.specs.declared.env.Way.{Way}
@@ -9,16 +8,13 @@ use Rattle.db_model.specs.declared.env.Way.TheVariants.{Next, Break, Continue, C
 use Rattle.db_model.specs.declared.packet.Packet.{Packet}
 use Rattle.pdl_code.specs.declared.code.ProtoCode.{ProtoCode}
 use Rattle.expr_eval.specs.Evaluates.{Stays}
-use Rattle.decode_vm.specs.declared.machine.Again.{Again}
-use Rattle.decode_vm.specs.declared.machine.Again.TheVariants as again
 use Rattle.decode_vm.specs.declared.machine.Held.{Held}
 use Rattle.decode_vm.specs.declared.machine.Held.TheVariants as held
 use Rattle.decode_vm.specs.declared.machine.Machine.{Machine}
-use Rattle.decode_vm.specs.declared.machine.Mode.{Mode}
 use Rattle.decode_vm.specs.declared.machine.Mode.TheVariants as mode
 use Rattle.decode_vm.specs.Cost.{place, of_mode, of_held, of_all, for_each, cost}
-use Rattle.decode_vm.specs.Machine.{place_behind, mode_behind, at_env, Keeps}
-use Rattle.decode_vm.specs.Sound.{Rising, old_before, olds_of, olds_in, BegunBefore, Sound}
+use Rattle.decode_vm.specs.Machine.{mode_behind, Keeps}
+use Rattle.decode_vm.specs.Sound.{Rising, olds_of, olds_in, BegunBefore, Sound}
 
 -- ---- what is kept
 

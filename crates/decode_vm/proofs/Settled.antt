@@ -1,6 +1,6 @@
 -- What a machine makes of an evaluation.
-use Rattle.std.specs.Prelude.{◌≡◌, ℕ, [], Option, Some, None, Result, Ok, Err}
-use Rattle.std.proofs.Common.{refl, sym, ap, subst, ◌∙◌, append-nil}
+use Rattle.std.specs.Prelude.{[], Option, Some, None, Result, Ok, Err}
+use Rattle.std.proofs.Common.{refl, sym, subst, append-nil}
 use Rattle.db_model.specs.declared.database.Database.{Database}
 use Rattle.db_model.specs.declared.env.Env.{Env}
 use Rattle.db_model.specs.declared.no_memory.NoMemory.{NoMemory}
@@ -16,8 +16,8 @@ use Rattle.expr_eval.specs.declared.end.EvalEnd.TheVariants as end
 use Rattle.expr_eval.specs.Evaluates.{Evaluates, itself}
 use Rattle.expr_eval.proofs.Steps.{gives, then_ok, then_err}
 use Rattle.decode_vm.specs.declared.machine.Machine.{Machine}
-use Rattle.decode_vm.specs.Machine.{at_env, halted}
-use Rattle.decode_vm.specs.Values.{Settled, numbered, Gave, Halts, Fails, Valued}
+use Rattle.decode_vm.specs.Machine.{at_env}
+use Rattle.decode_vm.specs.Values.{Settled, numbered, Valued}
 
 module _ {A : Type 0} (db : Database) (q : Eval A) (m : Machine) (c : Session) (l : Option Log) (env : Env) (c' : Session) (l' : Option Log) where
   pub settled : (value : Result A EvalEnd) (o : Result (Option A) NoMemory) (n : Machine) → Evaluates db q itself (point m.frame.env c l) value (point env c' l') → Settled value (at_env env m) o n → Valued db q m c l o n c' l'

@@ -1,5 +1,5 @@
 -- The steps of a machine at a loop, at the end of a list, and at operations that choose.
-use Rattle.std.specs.Prelude.{◌≡◌, ℕ, zero, suc, ◌+◌, ◌-◌, ◌<◌, ◌≤◌, Bool, true, false, if◌then◌else◌, nat_lt, nat_le, ◌==◌, not, List, [], ◌∷◌, ◌++◌, length, reverse, slice_get, Option, Some, None, Result, Ok, Err}
+use Rattle.std.specs.Prelude.{◌≡◌, ℕ, ◌+◌, ◌-◌, ◌<◌, ◌≤◌, Bool, true, false, if◌then◌else◌, nat_le, ◌==◌, not, List, [], ◌∷◌, ◌++◌, length, reverse, slice_get, Option, Some, Ok}
 use Rattle.std.proofs.Common.{refl, sym, ap, subst, ◌∙◌, arith}
 use Rattle.std.proofs.lemmas.Bool.{leb-true}
 use Rattle.db_model.specs.declared.database.Database.{Database}
@@ -8,16 +8,15 @@ use Rattle.db_model.specs.declared.element.LoopKind.TheVariants as kind
 use Rattle.db_model.specs.declared.env.Env.{Env}
 use Rattle.db_model.specs.declared.env.Frame.{Frame}
 use Rattle.db_model.specs.declared.env.Way.{Way}
-use Rattle.db_model.specs.declared.env.Way.TheVariants.{Next, Break, Continue, Chose, Stop}
+use Rattle.db_model.specs.declared.env.Way.TheVariants.{Next}
 use Rattle.db_model.specs.declared.expression.Expr.{Expr}
-use Rattle.db_model.specs.declared.tree.Node.{Node}
 use Rattle.db_model.specs.declared.tree.Reason.TheVariants as reason
 use Rattle.db_model.specs.Elements.{number, loop_by}
 use Rattle.db_model.specs.Expression.{Eval, is_so}
 use Rattle.db_model.specs.Names.{Text}
 use Rattle.db_model.specs.Over.{Point, point, Ends}
-use Rattle.db_model.specs.Questions.{Asks, Gives, and_then, Log, pure, ◌then◌}
-use Rattle.db_model.specs.Runs.{Went, Run, leave, next, halt, go, evaluated, turn, count, repeat, looped, before_limit, limited, under_limit}
+use Rattle.db_model.specs.Questions.{Asks, and_then, Log, pure, ◌then◌}
+use Rattle.db_model.specs.Runs.{Went, Run, leave, next, go, evaluated, count, repeat, looped, before_limit, limited, under_limit}
 use Rattle.db_model.specs.Session.{Session}
 use Rattle.db_model.proofs.Over.{ends_gives}
 use Rattle.pdl_code.specs.declared.code.Op.{Op}
@@ -31,18 +30,17 @@ use Rattle.decode_vm.specs.declared.machine.Again.TheVariants as again
 use Rattle.decode_vm.specs.declared.machine.Held.{Held}
 use Rattle.decode_vm.specs.declared.machine.Held.TheVariants as held
 use Rattle.decode_vm.specs.declared.machine.Machine.{Machine}
-use Rattle.decode_vm.specs.declared.machine.Mode.{Mode}
 use Rattle.decode_vm.specs.declared.machine.Mode.TheVariants as mode
 use Rattle.decode_vm.specs.Cost.{of_mode}
-use Rattle.decode_vm.specs.Left.{Rest, onto, of_loop, InLoop, Doing, Follow, Ahead, Left, Nearer, Moves}
-use Rattle.decode_vm.specs.Machine.{place_behind, in_mode, at_env, halted, spent, over, tested, under, resumed}
+use Rattle.decode_vm.specs.Left.{Rest, onto, of_loop, Doing, Follow, Ahead, Left, Nearer, Moves}
+use Rattle.decode_vm.specs.Machine.{place_behind, in_mode, halted, spent, over, tested, under, resumed}
 use Rattle.decode_vm.specs.Sound.{olds_in}
 use Rattle.decode_vm.specs.Values.{Gave}
 use Rattle.decode_vm.proofs.Algebra.{then_pure, and_gives, evaluated_then, onto_leave}
-use Rattle.decode_vm.proofs.Ahead.{there, at_place, ahead_move, ahead_same}
+use Rattle.decode_vm.proofs.Ahead.{at_place, ahead_move, ahead_same}
 use Rattle.decode_vm.proofs.Lists.{turn_over, left_over, left_closed, left_turned, left_under, left_short}
-use Rattle.decode_vm.proofs.Moves.{Begins, in_other, moves_mode, moves_value, moves_chosen, left_turn, more_of, repeat_is, none_left, some_left}
-use Rattle.decode_vm.proofs.Nearer.{is_zero, not_zero, near_mode, near_halted, near_over, near_spent, near_unspent, near_under, near_closed, near_turned}
+use Rattle.decode_vm.proofs.Moves.{Begins, moves_mode, moves_value, moves_chosen, left_turn, more_of, repeat_is, none_left, some_left}
+use Rattle.decode_vm.proofs.Nearer.{near_mode, near_halted, near_over, near_spent, near_unspent, near_under, near_closed, near_turned}
 use Rattle.decode_vm.proofs.Positions.{nearer}
 
 -- a loop that stands somewhere
@@ -95,14 +93,17 @@ module _ (db : Database) (fields : List Text) (code : ProtoCode) where
           record {
             run = of_loop (again.While pc) turns g.rest;
             rest = a.rest;
-            doing = (record {
-              inner = g.body;
-              turns = turns;
-              rest = g.rest;
-              at_body = at_place db fields code pc 0 g.body g.at_body;
-              at_rest = at_place db fields code pc to g.rest g.at_rest;
-              left = record { left = m.frame.env.turns; value = value; after = to; enough = omega arith; stands = f; is = refl };
-            }, refl);
+            doing = (
+              record {
+                inner = g.body;
+                turns = turns;
+                rest = g.rest;
+                at_body = at_place db fields code pc 0 g.body g.at_body;
+                at_rest = at_place db fields code pc to g.rest g.at_rest;
+                left = record { left = m.frame.env.turns; value = value; after = to; enough = omega arith; stands = f; is = refl };
+              },
+              refl,
+            );
             ahead = ahead_move db fields code t w s (loop_by db fields kind.While value g.body then go g.rest) (of_loop (again.While pc) turns g.rest) a.rest a.rest m n c l
                 (ahead_same db fields code t w s a.run (loop_by db fields kind.While value g.body then go g.rest) a.rest m c l g.is a.ahead) a.ahead.follow refl
                 (ap (λ (x : Asks (Went × Frame)). and_then (and_then x (λ y. go g.rest y.0 y.1)) (λ y. onto m.nodes a.rest y.0 y.1)) (sym (and_gives (turns m.frame))));
@@ -114,14 +115,21 @@ module _ (db : Database) (fields : List Text) (code : ProtoCode) where
     where
       by : (r : Run) → DoesLoop db fields code kind.Count value to pc r
           → (f : ℕ → Run) × (r ≡ evaluated (number db fields value) f) × ((most : ℕ) → Doing db fields code most (mode.Turn (again.Count v) (place_behind code pc 0) (place_behind code pc to)) (f v))
-      by r g = (λ n. count n g.body then go g.rest, g.is ∙ evaluated_then (number db fields value) (λ n. count n g.body) g.rest, λ most. (record {
-        inner = g.body;
-        turns = count v g.body;
-        rest = g.rest;
-        at_body = at_place db fields code pc 0 g.body g.at_body;
-        at_rest = at_place db fields code pc to g.rest g.at_rest;
-        left = refl;
-      }, ap (λ (p : Run). p then go g.rest) (sym (then_pure (count v g.body)))))
+      by r g = (
+        λ n. count n g.body then go g.rest,
+        g.is ∙ evaluated_then (number db fields value) (λ n. count n g.body) g.rest,
+        λ most. (
+          record {
+            inner = g.body;
+            turns = count v g.body;
+            rest = g.rest;
+            at_body = at_place db fields code pc 0 g.body g.at_body;
+            at_rest = at_place db fields code pc to g.rest g.at_rest;
+            left = refl;
+          },
+          ap (λ (p : Run). p then go g.rest) (sym (then_pure (count v g.body))),
+        ),
+      )
 
   pub moves_count : (pc to : ℕ) (value : Expr) (v : ℕ) (m o : Machine) (c : Session) (l : Option Log) (c' : Session) (l' : Option Log) → m.mode ≡ mode.At pc → pc < length code.ops → slice_get code.ops pc ≡ Some (Loop kind.Count value to) → Gave db (number db fields value) m c l v o c' l'
       → Moves db fields code m c l (in_mode (mode.Turn (again.Count v) (place_behind code pc 0) (place_behind code pc to)) o) c' l'
@@ -142,13 +150,17 @@ module _ (db : Database) (fields : List Text) (code : ProtoCode) where
   begins_size pc to value m e f r d = by r (invert db fields code (Loop kind.Size value to) pc r f (subst (λ y. Doing db fields code m.frame.env.turns y r) e d))
     where
       by : (r : Run) → DoesLoop db fields code kind.Size value to pc r → (f : ℕ → Run) × (r ≡ evaluated (number db fields value) f) × SizeStep pc to f
-      by r g = (λ n. under_limit n (looped before_limit g.body) then go g.rest, g.is ∙ evaluated_then (number db fields value) (λ n. under_limit n (looped before_limit g.body)) g.rest, record {
-        inner = g.body;
-        rest = g.rest;
-        at_body = at_place db fields code pc 0 g.body g.at_body;
-        at_rest = at_place db fields code pc to g.rest g.at_rest;
-        is = refl;
-      })
+      by r g = (
+        λ n. under_limit n (looped before_limit g.body) then go g.rest,
+        g.is ∙ evaluated_then (number db fields value) (λ n. under_limit n (looped before_limit g.body)) g.rest,
+        record {
+          inner = g.body;
+          rest = g.rest;
+          at_body = at_place db fields code pc 0 g.body g.at_body;
+          at_rest = at_place db fields code pc to g.rest g.at_rest;
+          is = refl;
+        },
+      )
 
   pub moves_size : (pc to : ℕ) (value : Expr) (v : ℕ) (m o : Machine) (c : Session) (l : Option Log) (c' : Session) (l' : Option Log) → m.mode ≡ mode.At pc → pc < length code.ops → slice_get code.ops pc ≡ Some (Loop kind.Size value to) → Gave db (number db fields value) m c l v o c' l'
       → Moves db fields code m c l (under v (place_behind code pc 0) (place_behind code pc to) o) c' l'
@@ -199,16 +211,19 @@ module _ (db : Database) (fields : List Text) (code : ProtoCode) where
       let inner = g.0.inner in
       let same : g.0.left.value ≡ value = same_value (slice_get code.ops at) kind.While kind.While g.0.left.value value g.0.left.after to g.0.left.stands f in
       let turns : g.0.turns ≡ evaluated test (λ v. if is_so v then more_of db fields code n test inner else next) =
-      g.0.left.is ∙ (ap (λ (x : Expr). repeat n (number db fields x) inner) same ∙ repeat_is db fields code n test inner) in
-      (λ v. (if is_so v then more_of db fields code n test inner else next) then go g.0.rest, g.1 ∙ (ap (λ (p : Run). p then go g.0.rest) (then_pure g.0.turns ∙ turns) ∙ evaluated_then test (λ v. if is_so v then more_of db fields code n test inner else next) g.0.rest), record {
-        left = n;
-        inner = inner;
-        rest = g.0.rest;
-        at_body = g.0.at_body;
-        at_rest = g.0.at_rest;
-        enough = g.0.left.enough;
-        is = refl;
-      })
+      g.0.left.is ∙ (ap (λ (x : Expr). repeat n (number db fields x) inner) same ∙ repeat_is db fields code n test inner) in (
+        λ v. (if is_so v then more_of db fields code n test inner else next) then go g.0.rest,
+        g.1 ∙ (ap (λ (p : Run). p then go g.0.rest) (then_pure g.0.turns ∙ turns) ∙ evaluated_then test (λ v. if is_so v then more_of db fields code n test inner else next) g.0.rest),
+        record {
+          left = n;
+          inner = inner;
+          rest = g.0.rest;
+          at_body = g.0.at_body;
+          at_rest = g.0.at_rest;
+          enough = g.0.left.enough;
+          is = refl;
+        },
+      )
 
   pub moves_tested : (at body after to : ℕ) (value : Expr) (v : ℕ) (m o : Machine) (c : Session) (l : Option Log) (c' : Session) (l' : Option Log) → m.mode ≡ mode.Turn (again.While at) body after → slice_get code.ops at ≡ Some (Loop kind.While value to) → Gave db (number db fields value) m c l v o c' l'
       → Moves db fields code m c l (tested v at body after o) c' l'

@@ -1,5 +1,5 @@
 -- How the keys and the row of an update are put together.
-use Rattle.std.specs.Prelude.{◌≡◌, ℕ, zero, suc, ◌+◌, ◌<◌, ◌≤◌, Bool, true, false, ◌==◌, List, [], ◌∷◌, ◌++◌, length, drop, replicate, slice_get, unwrap_or, Option, Some, None, Result, Ok, Err}
+use Rattle.std.specs.Prelude.{◌≡◌, ℕ, zero, suc, ◌+◌, ◌<◌, ◌≤◌, ◌==◌, List, [], ◌∷◌, ◌++◌, length, drop, replicate, slice_get, unwrap_or, Option, Some, None, Result, Ok, Err}
 use Rattle.std.proofs.Common.{refl, sym, ap, subst, ◌∙◌, arith, append_assoc, append-nil}
 use Rattle.db_model.specs.declared.database.ColumnDecl.{ColumnDecl}
 use Rattle.db_model.specs.declared.database.Database.{Database}
@@ -8,13 +8,13 @@ use Rattle.db_model.specs.declared.tree.Reason.{Reason}
 use Rattle.db_model.specs.declared.tree.Reason.TheVariants as reason
 use Rattle.db_model.specs.declared.value.Value.{Value}
 use Rattle.db_model.specs.Elements.{row_from, fits_column, filled}
-use Rattle.db_model.specs.Expression.{Eval, ◌>>=◌, result, buf, when, keys_from, taken_as}
+use Rattle.db_model.specs.Expression.{Eval, buf, when, keys_from, taken_as}
 use Rattle.db_model.specs.Over.{Point}
 use Rattle.db_model.specs.Table.{KeyList}
 use Rattle.expr_eval.specs.declared.end.EvalEnd.{EvalEnd}
 use Rattle.expr_eval.specs.declared.end.EvalEnd.TheVariants as end
 use Rattle.expr_eval.specs.Evaluates.{Evaluates, itself, Gave}
-use Rattle.expr_eval.proofs.Steps.{gives, refused, then_ok, then_err}
+use Rattle.expr_eval.proofs.Steps.{gives, then_ok, then_err}
 
 -- ---- keys
 

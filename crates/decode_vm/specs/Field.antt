@@ -1,7 +1,6 @@
 -- A field that is added to a machine.
-use Rattle.std.specs.Prelude.{◌≡◌, ℕ, ◌+◌, List, [], ◌∷◌, ◌++◌}
+use Rattle.std.specs.Prelude.{◌≡◌, ℕ, ◌+◌, [], ◌∷◌, ◌++◌}
 use Rattle.db_model.specs.declared.env.Env.{Env}
-use Rattle.db_model.specs.declared.env.Frame.{Frame}
 use Rattle.db_model.specs.declared.field_kind.FieldKind.{FieldKind}
 use Rattle.db_model.specs.declared.field_kind.FieldKind.TheVariants.{Fixed, Bit, Variable, TokenEnded, Line, Padding}
 use Rattle.db_model.specs.declared.tree.Node.TheVariants.{Field}

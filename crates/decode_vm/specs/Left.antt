@@ -3,13 +3,11 @@ use Rattle.std.specs.Prelude.{◌≡◌, ℕ, ◌<◌, ◌≤◌, true, List, []
 use Rattle.db_model.specs.declared.database.Database.{Database}
 use Rattle.db_model.specs.declared.element.LoopKind.TheVariants as kind
 use Rattle.db_model.specs.declared.env.Frame.{Frame}
-use Rattle.db_model.specs.declared.env.Way.{Way}
 use Rattle.db_model.specs.declared.expression.Expr.{Expr}
 use Rattle.db_model.specs.declared.no_memory.NoMemory.{NoMemory}
 use Rattle.db_model.specs.declared.question.Answer.{Answer}
 use Rattle.db_model.specs.declared.tree.Node.{Node}
 use Rattle.db_model.specs.Elements.{number}
-use Rattle.db_model.specs.Expression.{Eval}
 use Rattle.db_model.specs.Fitting.{question_fits}
 use Rattle.db_model.specs.Names.{Text}
 use Rattle.db_model.specs.Over.{Point, point, Ends, Leads}

@@ -1,5 +1,5 @@
 -- What holds of the positions of a machine: the origin, the position, the limit and the limits that are set again stand in this order before the packet's end, and no open block began behind the position.
-use Rattle.std.specs.Prelude.{ℕ, ◌≤◌, List, [], ◌∷◌, ◌++◌, length, reverse}
+use Rattle.std.specs.Prelude.{ℕ, ◌≤◌, List, [], ◌∷◌, length, reverse}
 use Rattle.decode_vm.specs.declared.machine.Again.{Again}
 use Rattle.decode_vm.specs.declared.machine.Again.TheVariants as again
 use Rattle.decode_vm.specs.declared.machine.Held.{Held}

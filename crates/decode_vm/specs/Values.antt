@@ -6,7 +6,7 @@ use Rattle.db_model.specs.declared.no_memory.NoMemory.{NoMemory}
 use Rattle.db_model.specs.declared.tree.Reason.{Reason}
 use Rattle.db_model.specs.declared.value.Value.{Value}
 use Rattle.db_model.specs.Expression.{Eval, num}
-use Rattle.db_model.specs.Over.{Point, point, Ends}
+use Rattle.db_model.specs.Over.{point, Ends}
 use Rattle.db_model.specs.Questions.{Log}
 use Rattle.db_model.specs.Runs.{within}
 use Rattle.db_model.specs.Session.{Session}

@@ -99,7 +99,9 @@ pub fn act<A: Answers>(
         }
         Op::Include { block } => include(alloc, code, pc, *block, m),
         Op::Loop { kind, value, after } => {
-            enter(alloc, db, protocol, code, pc, *kind, value, *after, m, answers)
+            enter(
+                alloc, db, protocol, code, pc, *kind, value, *after, m, answers,
+            )
         }
     }
 }

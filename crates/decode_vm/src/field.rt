@@ -27,7 +27,14 @@ pub fn place_field(
     ensures { OnOk result (Ran (place_field kind.now number n) after m.old m.new) }
 {
     let env = &m.frame.env;
-    match extent(kind, env.packet.bytes.as_slice(), env.at, env.limit, env.origin, n) {
+    match extent(
+        kind,
+        env.packet.bytes.as_slice(),
+        env.at,
+        env.limit,
+        env.origin,
+        n,
+    ) {
         Extent::Short => halt(m, Reason::Short),
         Extent::Size(size) => spend(alloc, number, kind, size, after, m),
     }

@@ -1,4 +1,7 @@
-//! Decodes a packet over anything that answers questions.
+//! The engine: it runs the code of a protocol on a packet, over anything that answers questions. The contract of
+//! `run` says that the nodes, the way in which the list ended and the state behind it are those of the run that the
+//! code does, that exactly the questions of that run were asked, and that some first of them were where memory was
+//! refused.
 #![tactic(auto)]
 
 mod act;

@@ -16,8 +16,8 @@ use crate::machine::{Machine, Mode};
 use crate::masks::masks;
 use crate::values::{number_of, protocol_of, settle};
 use db_model::{
-    Answer, Answers, Bytes, CheckedDb, ColumnDecl, Env, KeyDecl, Keys, MOST_PROTOCOLS, NewEntry, NoMemory,
-    Question, Reason, Row, STAMP_END, Ty, UpdateKey, UpdateValue, Validity, Value,
+    Answer, Answers, Bytes, CheckedDb, ColumnDecl, Env, KeyDecl, Keys, MOST_PROTOCOLS, NewEntry,
+    NoMemory, Question, Reason, Row, STAMP_END, Ty, UpdateKey, UpdateValue, Validity, Value,
 };
 use expr_eval::{EvalEnd, eval};
 use pdl_code::ProtoCode;
@@ -48,7 +48,9 @@ pub fn update<A: Answers>(
     ensures moves { StepsTo db.now (names_of_protocol db.now protocol) code.now m.old (A.content answers.old) (A.told answers.old) result m.new (A.content answers.new) (A.told answers.new) }
 {
     let env = &mut m.frame.env;
-    let answer = added(alloc, db, protocol, table, validity, keep, hit, keys, row, env, answers);
+    let answer = added(
+        alloc, db, protocol, table, validity, keep, hit, keys, row, env, answers,
+    );
     match settle(m, answer)? {
         Some(_done) => {
             m.mode = Mode::At(behind(code, pc, 0));
@@ -82,7 +84,15 @@ fn added<A: Answers>(
         Some(declared) => {
             let sizes = declared.keys.as_slice();
             let these = keys_of(alloc, db, protocol, keys, sizes, env, answers)?;
-            let values = row_of(alloc, db, protocol, row, declared.columns.as_slice(), env, answers)?;
+            let values = row_of(
+                alloc,
+                db,
+                protocol,
+                row,
+                declared.columns.as_slice(),
+                env,
+                answers,
+            )?;
             let entry = NewEntry {
                 keys: these,
                 masks: masks(alloc, sizes, keys)?,
@@ -181,7 +191,12 @@ fn row_of<A: Answers>(
 }
 
 /// A value as its column's, which has a greatest size. `protocols` are declared.
-fn data(alloc: Global, value: Value, column: &ColumnDecl, protocols: usize) -> Result<Value, EvalEnd>
+fn data(
+    alloc: Global,
+    value: Value,
+    column: &ColumnDecl,
+    protocols: usize,
+) -> Result<Value, EvalEnd>
     requires { protocols ≤ MOST_PROTOCOLS }
     ensures { Gave (λ v. v) (when (fits_column column.now.size (taken_as protocols column.now.ty value)) DataSize (taken_as protocols column.now.ty value)) result }
 {

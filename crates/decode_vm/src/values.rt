@@ -21,10 +21,7 @@ pub fn halt(m: &mut Machine, reason: Reason) -> Result<(), NoMemory>
 }
 
 /// The value of an evaluation. None: it had no value, for a reason that ends the decoding.
-pub fn settle<T: Drop>(
-    m: &mut Machine,
-    value: Result<T, EvalEnd>,
-) -> Result<Option<T>, NoMemory>
+pub fn settle<T: Drop>(m: &mut Machine, value: Result<T, EvalEnd>) -> Result<Option<T>, NoMemory>
     ensures { Settled value m.old result m.new }
 {
     match value {

@@ -1,6 +1,4 @@
-use Rattle.std.proofs.Common.{ap, arith, length, reverse, subst, sym, ◌≡◌, ◌≤◌, ◌+◌, ◌-◌, ◌∙◌, Option, Some, None, List, ℕ}
-use Rattle.db_model.specs.declared.env.Frame.{Frame}
-use Rattle.db_model.specs.declared.field_kind.FieldKind.{FieldKind}
+use Rattle.std.proofs.Common.{ap, arith, length, reverse, subst, sym, ◌≡◌, ◌≤◌, ◌-◌, ◌∙◌, Option, Some, None, List, ℕ}
 use Rattle.db_model.specs.declared.tree.Reason.TheVariants as reason
 use Rattle.db_model.specs.Extent.{extent}
 use Rattle.db_model.specs.Runs.{add_field, place_field, sized_field, spend_node}

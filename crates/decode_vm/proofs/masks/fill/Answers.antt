@@ -1,4 +1,4 @@
-use Rattle.std.proofs.Common.{◌≡◌, ◌∙◌, ◌++◌, ◌∷◌, [], List, ℕ, Option, Some, None, sym, ap, map, drop, slice_get, subst, append-nil}
+use Rattle.std.proofs.Common.{◌≡◌, Some, None, sym, map, drop, slice_get}
 use Rattle.db_model.specs.declared.database.KeyDecl.{KeyDecl}
 use Rattle.db_model.specs.declared.element.UpdateKey.{UpdateKey}
 use Rattle.db_model.specs.Elements.{filled}

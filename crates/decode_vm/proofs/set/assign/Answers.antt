@@ -1,4 +1,4 @@
-use Rattle.std.proofs.Common.{◌≡◌, Err, ap, rules, subst, sym, ◌∙◌, slice_set}
+use Rattle.std.proofs.Common.{◌≡◌, Err, rules, subst, sym}
 use Rattle.db_model.specs.declared.env.Env.{Env}
 use Rattle.db_model.specs.declared.value.Value.TheVariants.{Num}
 use Rattle.db_model.specs.Elements.{set_variable}

@@ -1,5 +1,4 @@
 use Rattle.std.proofs.Common.{◌≡◌, Err, Some, slice_get, ap, sym, rules, ◌∙◌}
-use Rattle.db_model.specs.declared.element.LoopKind.TheVariants as kind
 use Rattle.db_model.specs.Elements.{number}
 use Rattle.db_model.specs.Numbering.{names_of_protocol}
 use Rattle.pdl_code.specs.declared.code.Op.TheVariants.{Loop}

@@ -1,4 +1,4 @@
-use Rattle.std.proofs.Common.{◌≡◌, ◌∙◌, sym, ap, refl, rules, ℕ, List, map, length, Ok, Err, None, Some, slice_get, drop, [], ◌+◌, subst, arith}
+use Rattle.std.proofs.Common.{◌≡◌, ◌∙◌, sym, ap, refl, rules, ℕ, List, map, length, Err, None, Some, slice_get, drop, [], ◌+◌, subst, arith}
 use Rattle.db_model.specs.declared.value.Value.{Value}
 use Rattle.db_model.specs.declared.database.KeyDecl.{KeyDecl}
 use Rattle.db_model.specs.declared.element.UpdateKey.{UpdateKey}

@@ -1,4 +1,4 @@
-use Rattle.std.proofs.Common.{subst, sym}
+use Rattle.std.proofs.Common.{subst}
 use Rattle.db_model.specs.Expression.{val}
 use Rattle.db_model.specs.Elements.{number}
 use Rattle.db_model.specs.Numbering.{names_of_protocol}
