@@ -1,0 +1,17 @@
+pub mod Algebra
+pub mod Ahead
+pub mod Lists
+pub mod Positions
+pub mod Nearer
+pub mod Moves
+pub mod Turns
+pub mod Settled
+pub mod Operations
+pub mod Entered
+pub mod Fields
+pub mod Updates
+pub mod Fits
+pub mod Added
+pub mod Updated
+pub mod Acts
+pub mod Stepping

@@ -1,0 +1,128 @@
+ghost use Rattle.std.specs.Prelude.{◌≡◌, ◌<◌, Some, length, slice_get};
+ghost use Rattle.db_model.specs.Numbering.{names_of_protocol};
+ghost use Rattle.decode_vm.specs.Left.{StepsTo};
+ghost use Rattle.decode_vm.specs.Machine.{place_behind};
+ghost use Rattle.pdl_code.specs.Does.{target, unless_so};
+ghost use Rattle.pdl_code.specs.declared.code.Op.TheVariants.{NextProto, Switch, Test};
+ghost use Rattle.decode_vm.specs.declared.machine.Mode.TheVariants.{At};
+
+use crate::machine::{Machine, Mode};
+use crate::values::{evaluate, evaluate_number, protocol_of};
+use db_model::{Answers, CheckedDb, Expr, NoMemory, STAMP_END, Way};
+use encap::choose;
+use pdl_code::{ProtoCode, Ranges};
+use sqlite_items::Items;
+use std::alloc::Global;
+
+/// The place so many operations behind the next one, at most the end of the code.
+pub fn behind(code: &ProtoCode, pc: usize, to: usize) -> usize
+    ensures { result ≡ place_behind code.now pc to }
+{
+    let end = code.ops.len();
+    pc.saturating_add(1).saturating_add(to).min(end)
+}
+
+/// Jumps where the value is 0.
+pub fn test<A: Answers>(
+    alloc: Global,
+    db: &CheckedDb,
+    protocol: u16,
+    code: &ProtoCode,
+    pc: usize,
+    value: &Expr,
+    to: usize,
+    m: &mut Machine,
+    answers: &mut A,
+) -> Result<(), NoMemory>
+    requires database { A.database answers.old ≡ db.now }
+    requires time { m.old.frame.env.packet.stamp < STAMP_END }
+    requires mode { m.old.mode ≡ At pc }
+    requires stands { slice_get code.now.ops pc ≡ Some (Test value.now to) }
+    ensures database { A.database answers.new ≡ db.now }
+    ensures moves { StepsTo db.now (names_of_protocol db.now protocol) code.now m.old (A.content answers.old) (A.told answers.old) result m.new (A.content answers.new) (A.told answers.new) }
+{
+    match evaluate_number(alloc, db, protocol, value, m, answers)? {
+        Some(v) => {
+            m.mode = Mode::At(behind(code, pc, skipped(v, to)));
+            Ok(())
+        }
+        None => Ok(()),
+    }
+}
+
+/// How many operations a test skips.
+fn skipped(v: u32, to: usize) -> usize
+    ensures { result ≡ unless_so v to }
+{
+    if v != 0 { 0 } else { to }
+}
+
+/// Jumps to the target of the first range that holds the value.
+pub fn switch<A: Answers>(
+    alloc: Global,
+    db: &CheckedDb,
+    protocol: u16,
+    code: &ProtoCode,
+    pc: usize,
+    value: &Expr,
+    ranges: &Ranges,
+    targets: &Items<usize>,
+    otherwise: usize,
+    m: &mut Machine,
+    answers: &mut A,
+) -> Result<(), NoMemory>
+    requires database { A.database answers.old ≡ db.now }
+    requires time { m.old.frame.env.packet.stamp < STAMP_END }
+    requires mode { m.old.mode ≡ At pc }
+    requires stands { slice_get code.now.ops pc ≡ Some (Switch value.now ranges.now targets.now otherwise) }
+    ensures database { A.database answers.new ≡ db.now }
+    ensures moves { StepsTo db.now (names_of_protocol db.now protocol) code.now m.old (A.content answers.old) (A.told answers.old) result m.new (A.content answers.new) (A.told answers.new) }
+{
+    match evaluate_number(alloc, db, protocol, value, m, answers)? {
+        Some(v) => {
+            m.mode = Mode::At(behind(code, pc, target(ranges, targets, otherwise, v)));
+            Ok(())
+        }
+        None => Ok(()),
+    }
+}
+
+/// How many operations a switch skips.
+fn target(ranges: &Ranges, targets: &Items<usize>, otherwise: usize, v: u32) -> usize
+    ensures { result ≡ target ranges.now targets.now otherwise v }
+{
+    match choose(ranges.as_slice(), v) {
+        Some(place) => match targets.get(place as usize) {
+            Some(to) => *to,
+            None => otherwise,
+        },
+        None => otherwise,
+    }
+}
+
+/// Names the next protocol.
+pub fn next_proto<A: Answers>(
+    alloc: Global,
+    db: &CheckedDb,
+    protocol: u16,
+    code: &ProtoCode,
+    pc: usize,
+    value: &Expr,
+    m: &mut Machine,
+    answers: &mut A,
+) -> Result<(), NoMemory>
+    requires database { A.database answers.old ≡ db.now }
+    requires time { m.old.frame.env.packet.stamp < STAMP_END }
+    requires mode { m.old.mode ≡ At pc }
+    requires stands { slice_get code.now.ops pc ≡ Some (NextProto value.now) }
+    ensures database { A.database answers.new ≡ db.now }
+    ensures moves { StepsTo db.now (names_of_protocol db.now protocol) code.now m.old (A.content answers.old) (A.told answers.old) result m.new (A.content answers.new) (A.told answers.new) }
+{
+    match evaluate(alloc, db, protocol, value, m, answers)? {
+        Some(v) => {
+            m.mode = Mode::Leaving(Way::Chose(protocol_of(&v)));
+            Ok(())
+        }
+        None => Ok(()),
+    }
+}

@@ -1,0 +1,99 @@
+ghost use Rattle.std.specs.Prelude.{◌≡◌, ◌≤◌, ◌<◌, OnOk, Some, slice_get};
+ghost use Rattle.db_model.specs.Numbering.{names_of_protocol};
+ghost use Rattle.decode_vm.specs.Left.{StepsTo};
+ghost use Rattle.decode_vm.specs.Machine.{opened, under};
+ghost use Rattle.pdl_code.specs.declared.code.Op.TheVariants.{Loop};
+ghost use Rattle.decode_vm.specs.declared.machine.Mode.TheVariants.{At};
+
+use crate::choose::behind;
+use crate::machine::{Again, Held, Machine, Mode};
+use crate::values::{evaluate_number, halt};
+use db_model::{Answers, CheckedDb, Expr, LoopKind, NoMemory, Nodes, Reason, STAMP_END};
+use pdl_code::ProtoCode;
+use std::alloc::Global;
+use std::mem;
+
+/// Begins a block whose body stands at a place, or ends the decoding where no node is left.
+pub fn open(
+    alloc: Global,
+    number: u32,
+    body: usize,
+    after: usize,
+    m: &mut Machine,
+) -> Result<(), NoMemory>
+    ensures { OnOk result (m.new ≡ opened number body after m.old) }
+{
+    if m.frame.nodes == 0 {
+        return halt(m, Reason::Nodes);
+    }
+    m.frame.nodes -= 1;
+    let from = m.frame.env.at;
+    let before = mem::replace(&mut m.nodes, Nodes::new(alloc));
+    m.held.push(Held::Block {
+        number,
+        from,
+        before,
+        after,
+    })?;
+    m.mode = Mode::At(body);
+    Ok(())
+}
+
+/// Begins a loop.
+pub fn enter<A: Answers>(
+    alloc: Global,
+    db: &CheckedDb,
+    protocol: u16,
+    code: &ProtoCode,
+    pc: usize,
+    kind: LoopKind,
+    value: &Expr,
+    to: usize,
+    m: &mut Machine,
+    answers: &mut A,
+) -> Result<(), NoMemory>
+    requires database { A.database answers.old ≡ db.now }
+    requires time { m.old.frame.env.packet.stamp < STAMP_END }
+    requires position { m.old.frame.env.at ≤ m.old.frame.env.limit }
+    requires mode { m.old.mode ≡ At pc }
+    requires stands { slice_get code.now.ops pc ≡ Some (Loop kind value.now to) }
+    ensures database { A.database answers.new ≡ db.now }
+    ensures moves { StepsTo db.now (names_of_protocol db.now protocol) code.now m.old (A.content answers.old) (A.told answers.old) result m.new (A.content answers.new) (A.told answers.new) }
+{
+    let body = behind(code, pc, 0);
+    let after = behind(code, pc, to);
+    match kind {
+        LoopKind::While => {
+            let again = Again::While { at: pc };
+            m.mode = Mode::Turn { again, body, after };
+            Ok(())
+        }
+        LoopKind::Count => match evaluate_number(alloc, db, protocol, value, m, answers)? {
+            Some(left) => {
+                let again = Again::Count { left };
+                m.mode = Mode::Turn { again, body, after };
+                Ok(())
+            }
+            None => Ok(()),
+        },
+        LoopKind::Size => match evaluate_number(alloc, db, protocol, value, m, answers)? {
+            Some(n) => limit(n, body, after, m),
+            None => Ok(()),
+        },
+    }
+}
+
+/// Sets the limit so many bytes on for a loop, or ends the decoding where there are fewer.
+fn limit(n: u32, body: usize, after: usize, m: &mut Machine) -> Result<(), NoMemory>
+    requires { m.old.frame.env.at ≤ m.old.frame.env.limit }
+    ensures { OnOk result (m.new ≡ under n body after m.old) }
+{
+    let old = m.frame.env.limit;
+    if n > old - m.frame.env.at {
+        return halt(m, Reason::Short);
+    }
+    m.frame.env.limit = m.frame.env.at + n;
+    let again = Again::Size { old };
+    m.mode = Mode::Turn { again, body, after };
+    Ok(())
+}

@@ -1,0 +1,22 @@
+//! The engine: it runs the code of a protocol on a packet, over anything that answers questions. The contract of
+//! `run` says that the nodes, the way in which the list ended and the state behind it are those of the run that the
+//! code does, that exactly the questions of that run were asked, and that some first of them were where memory was
+//! refused.
+#![tactic(auto)]
+
+mod act;
+mod choose;
+mod enter;
+mod field;
+mod list;
+mod machine;
+mod masks;
+mod resume;
+mod set;
+mod steps;
+mod turn;
+mod update;
+mod values;
+
+pub use list::{Ended, run};
+pub use steps::Steps;

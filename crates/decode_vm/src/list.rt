@@ -1,0 +1,104 @@
+ghost use Rattle.std.specs.Prelude.{◌≡◌, ◌<◌, IfOk};
+ghost use Rattle.db_model.specs.Numbering.{names_of_protocol};
+ghost use Rattle.decode_vm.specs.Left.{Running};
+ghost use Rattle.decode_vm.specs.Run.{Closed, HasRun, IsPlaced, RunEnds, Stepped};
+ghost use Rattle.decode_vm.specs.Sound.{Sound};
+
+use crate::act::act;
+use crate::machine::{Machine, Mode};
+use crate::resume::resume;
+use crate::turn::turn;
+use db_model::{Answers, CheckedDb, Frame, NoMemory, Nodes, STAMP_END, Way};
+use pdl_code::ProtoCode;
+use sqlite_items::Items;
+use std::alloc::Global;
+
+/// How the list of a protocol ended.
+#[derive(Drop)]
+pub struct Ended {
+    pub way: Way,
+    pub nodes: Nodes,
+    pub frame: Frame,
+}
+
+/// Runs the list of the protocol of this number, from the position on. NoMemory: some first of its questions were
+/// asked.
+pub fn run<A: Answers>(
+    alloc: Global,
+    db: &CheckedDb,
+    protocol: u16,
+    code: &ProtoCode,
+    frame: Frame,
+    answers: &mut A,
+) -> Result<Ended, NoMemory>
+    requires database { A.database answers.old ≡ db.now }
+    requires time { frame.env.packet.stamp < STAMP_END }
+    requires placed { IsPlaced frame }
+    requires runs { HasRun db.now (names_of_protocol db.now protocol) code.now frame }
+    ensures database { A.database answers.new ≡ db.now }
+    ensures ends { RunEnds db.now (names_of_protocol db.now protocol) code.now frame (A.content answers.old) (A.told answers.old) result (A.content answers.new) (A.told answers.new) }
+    ensures packet { IfOk result (λ e. e.frame.env.packet ≡ frame.env.packet) }
+    ensures placed { IfOk result (λ e. IsPlaced e.frame) }
+{
+    let mut m = Machine {
+        mode: Mode::At(0),
+        held: Items::new(alloc),
+        nodes: Nodes::new(alloc),
+        frame,
+    };
+    loop {
+        if let Some(way) = step(alloc, db, protocol, code, &mut m, answers)? {
+            return Ok(finish(way, m));
+        }
+    }
+}
+
+fn finish(way: Way, m: Machine) -> Ended
+    ensures { result ≡ record { way = way; nodes = m.nodes; frame = m.frame } }
+{
+    let Machine { nodes, frame, .. } = m;
+    Ended { way, nodes, frame }
+}
+
+/// Does what comes next. The way in which the whole list ended, where it did.
+fn step<A: Answers>(
+    alloc: Global,
+    db: &CheckedDb,
+    protocol: u16,
+    code: &ProtoCode,
+    m: &mut Machine,
+    answers: &mut A,
+) -> Result<Option<Way>, NoMemory>
+    requires database { A.database answers.old ≡ db.now }
+    requires time { m.old.frame.env.packet.stamp < STAMP_END }
+    requires sound { Sound m.old }
+    requires running { Running db.now (names_of_protocol db.now protocol) code.now m.old (A.content answers.old) (A.told answers.old) }
+    ensures database { A.database answers.new ≡ db.now }
+    ensures steps { Stepped db.now (names_of_protocol db.now protocol) code.now m.old (A.content answers.old) (A.told answers.old) result m.new (A.content answers.new) (A.told answers.new) }
+{
+    match m.mode {
+        Mode::At(pc) => {
+            act(alloc, db, protocol, code, pc, m, answers)?;
+            Ok(None)
+        }
+        Mode::Turn { again, body, after } => {
+            turn(alloc, db, protocol, code, again, body, after, m, answers)?;
+            Ok(None)
+        }
+        Mode::Leaving(way) => close(way, m),
+    }
+}
+
+/// Goes on in the list around the innermost one. The way, where there is none.
+fn close(way: Way, m: &mut Machine) -> Result<Option<Way>, NoMemory>
+    requires { Sound m.old }
+    ensures { Closed way m.old result m.new }
+{
+    match m.held.pop() {
+        Some(held) => {
+            resume(held, way, m)?;
+            Ok(None)
+        }
+        None => Ok(Some(way)),
+    }
+}

@@ -1,0 +1,133 @@
+ghost use Rattle.std.specs.Prelude.{◌≡◌, ◌<◌, OnOk, slice_get};
+ghost use Rattle.db_model.specs.Numbering.{names_of_protocol};
+ghost use Rattle.decode_vm.specs.Left.{Running, StepsTo};
+ghost use Rattle.decode_vm.specs.Machine.{counted, over, restored, sized, spent, tested};
+ghost use Rattle.decode_vm.specs.declared.machine.Again.TheVariants.{While};
+ghost use Rattle.decode_vm.specs.declared.machine.Mode.TheVariants.{Turn};
+
+use crate::machine::{Again, Held, Machine, Mode};
+use crate::values::{evaluate_number, halt};
+use db_model::{Answers, CheckedDb, LoopKind, NoMemory, Reason, STAMP_END};
+use pdl_code::{Op, ProtoCode};
+use std::alloc::Global;
+
+/// Begins the next turn of a loop, or goes on behind the loop.
+pub fn turn<A: Answers>(
+    alloc: Global,
+    db: &CheckedDb,
+    protocol: u16,
+    code: &ProtoCode,
+    again: Again,
+    body: usize,
+    after: usize,
+    m: &mut Machine,
+    answers: &mut A,
+) -> Result<(), NoMemory>
+    requires database { A.database answers.old ≡ db.now }
+    requires time { m.old.frame.env.packet.stamp < STAMP_END }
+    requires mode { m.old.mode ≡ Turn again body after }
+    requires running { Running db.now (names_of_protocol db.now protocol) code.now m.old (A.content answers.old) (A.told answers.old) }
+    ensures database { A.database answers.new ≡ db.now }
+    ensures moves { StepsTo db.now (names_of_protocol db.now protocol) code.now m.old (A.content answers.old) (A.told answers.old) result m.new (A.content answers.new) (A.told answers.new) }
+{
+    match again {
+        Again::Count { left } => count(left, body, after, m),
+        Again::While { at } => test(alloc, db, protocol, code, at, body, after, m, answers),
+        Again::Size { old } => fill(old, body, after, m),
+    }
+}
+
+fn count(left: u32, body: usize, after: usize, m: &mut Machine) -> Result<(), NoMemory>
+    ensures { OnOk result (m.new ≡ counted left body after m.old) }
+{
+    if left == 0 {
+        leave(Again::Count { left }, after, m);
+        Ok(())
+    } else {
+        spend(Again::Count { left: left - 1 }, body, after, m)
+    }
+}
+
+fn fill(old: u32, body: usize, after: usize, m: &mut Machine) -> Result<(), NoMemory>
+    ensures { OnOk result (m.new ≡ sized old body after m.old) }
+{
+    if m.frame.env.at < m.frame.env.limit {
+        spend(Again::Size { old }, body, after, m)
+    } else {
+        leave(Again::Size { old }, after, m);
+        Ok(())
+    }
+}
+
+/// The loop stands at the place `at`.
+fn test<A: Answers>(
+    alloc: Global,
+    db: &CheckedDb,
+    protocol: u16,
+    code: &ProtoCode,
+    at: usize,
+    body: usize,
+    after: usize,
+    m: &mut Machine,
+    answers: &mut A,
+) -> Result<(), NoMemory>
+    requires database { A.database answers.old ≡ db.now }
+    requires time { m.old.frame.env.packet.stamp < STAMP_END }
+    requires mode { m.old.mode ≡ Turn (While at) body after }
+    requires running { Running db.now (names_of_protocol db.now protocol) code.now m.old (A.content answers.old) (A.told answers.old) }
+    ensures database { A.database answers.new ≡ db.now }
+    ensures moves { StepsTo db.now (names_of_protocol db.now protocol) code.now m.old (A.content answers.old) (A.told answers.old) result m.new (A.content answers.new) (A.told answers.new) }
+{
+    let Some(Op::Loop { value, .. }) = code.ops.get(at) else {
+        unreachable!()
+    };
+    match evaluate_number(alloc, db, protocol, value, m, answers)? {
+        Some(v) => go_on(v, at, body, after, m),
+        None => Ok(()),
+    }
+}
+
+/// A turn where the test isn't 0.
+fn go_on(v: u32, at: usize, body: usize, after: usize, m: &mut Machine) -> Result<(), NoMemory>
+    ensures { OnOk result (m.new ≡ tested v at body after m.old) }
+{
+    if v == 0 {
+        leave(Again::While { at }, after, m);
+        Ok(())
+    } else {
+        spend(Again::While { at }, body, after, m)
+    }
+}
+
+/// Begins a turn, or ends the decoding where none is left.
+fn spend(again: Again, body: usize, after: usize, m: &mut Machine) -> Result<(), NoMemory>
+    ensures { OnOk result (m.new ≡ spent again body after m.old) }
+{
+    if m.frame.env.turns == 0 {
+        halt(m, Reason::Turns)?;
+        restore(again, m);
+        return Ok(());
+    }
+    m.frame.env.turns -= 1;
+    m.held.push(Held::Loop { again, body, after })?;
+    m.mode = Mode::At(body);
+    Ok(())
+}
+
+/// Goes on behind a loop.
+pub fn leave(again: Again, after: usize, m: &mut Machine)
+    ensures { m.new ≡ over again after m.old }
+{
+    m.mode = Mode::At(after);
+    restore(again, m);
+}
+
+/// Sets the limit that was there before a loop.
+pub fn restore(again: Again, m: &mut Machine)
+    ensures { m.new ≡ restored again m.old }
+{
+    match again {
+        Again::Size { old } => m.frame.env.limit = old,
+        Again::Count { .. } | Again::While { .. } => {}
+    }
+}

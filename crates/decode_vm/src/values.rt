@@ -1,0 +1,100 @@
+ghost use Rattle.std.specs.Prelude.{◌≡◌, ◌<◌, OnOk};
+ghost use Rattle.db_model.specs.Elements.{number};
+ghost use Rattle.db_model.specs.Expression.{num, proto, val};
+ghost use Rattle.db_model.specs.Numbering.{names_of_protocol};
+ghost use Rattle.decode_vm.specs.Machine.{halted};
+ghost use Rattle.decode_vm.specs.Values.{Settled, Valued, numbered};
+
+use crate::machine::{Machine, Mode};
+use db_model::{Answers, CheckedDb, Expr, NoMemory, Node, Reason, STAMP_END, Value, Way};
+use expr_eval::{EvalEnd, eval};
+use std::alloc::Global;
+
+/// Ends the decoding: its note is the last node of the innermost list.
+pub fn halt(m: &mut Machine, reason: Reason) -> Result<(), NoMemory>
+    ensures { OnOk result (m.new ≡ halted reason m.old) }
+{
+    let pos = m.frame.env.at;
+    m.nodes.push(Node::Note { reason, pos })?;
+    m.mode = Mode::Leaving(Way::Stop(reason));
+    Ok(())
+}
+
+/// The value of an evaluation. None: it had no value, for a reason that ends the decoding.
+pub fn settle<T: Drop>(m: &mut Machine, value: Result<T, EvalEnd>) -> Result<Option<T>, NoMemory>
+    ensures { Settled value m.old result m.new }
+{
+    match value {
+        Ok(v) => Ok(Some(v)),
+        Err(EvalEnd::Fault(reason)) => {
+            halt(m, reason)?;
+            Ok(None)
+        }
+        Err(EvalEnd::NoMemory) => Err(NoMemory),
+    }
+}
+
+/// The value of an expression in the protocol of this number, as in `settle`.
+pub fn evaluate<A: Answers>(
+    alloc: Global,
+    db: &CheckedDb,
+    protocol: u16,
+    e: &Expr,
+    m: &mut Machine,
+    answers: &mut A,
+) -> Result<Option<Value>, NoMemory>
+    requires database { A.database answers.old ≡ db.now }
+    requires time { m.old.frame.env.packet.stamp < STAMP_END }
+    ensures database { A.database answers.new ≡ db.now }
+    ensures value { Valued db.now (val db.now (names_of_protocol db.now protocol) e.now) m.old (A.content answers.old) (A.told answers.old) result m.new (A.content answers.new) (A.told answers.new) }
+{
+    let value = eval(alloc, e, db, protocol, &mut m.frame.env, answers);
+    settle(m, value)
+}
+
+/// The same as a number.
+pub fn evaluate_number<A: Answers>(
+    alloc: Global,
+    db: &CheckedDb,
+    protocol: u16,
+    e: &Expr,
+    m: &mut Machine,
+    answers: &mut A,
+) -> Result<Option<u32>, NoMemory>
+    requires database { A.database answers.old ≡ db.now }
+    requires time { m.old.frame.env.packet.stamp < STAMP_END }
+    ensures database { A.database answers.new ≡ db.now }
+    ensures value { Valued db.now (number db.now (names_of_protocol db.now protocol) e.now) m.old (A.content answers.old) (A.told answers.old) result m.new (A.content answers.new) (A.told answers.new) }
+{
+    let value = eval(alloc, e, db, protocol, &mut m.frame.env, answers);
+    settle(m, as_number(value))
+}
+
+fn as_number(value: Result<Value, EvalEnd>) -> Result<u32, EvalEnd>
+    ensures { result ≡ numbered value }
+{
+    match value {
+        Ok(v) => Ok(number_of(&v)),
+        Err(e) => Err(e),
+    }
+}
+
+/// 0 where it is no number.
+pub fn number_of(value: &Value) -> u32
+    ensures { result ≡ num value.now }
+{
+    match value {
+        Value::Num(n) => *n,
+        Value::Buf(_) | Value::Proto(_) => 0,
+    }
+}
+
+/// Protocol 0 where it is no protocol.
+pub fn protocol_of(value: &Value) -> u16
+    ensures { result ≡ proto value.now }
+{
+    match value {
+        Value::Proto(p) => *p,
+        Value::Num(_) | Value::Buf(_) => 0,
+    }
+}
