@@ -16,9 +16,9 @@ use Rattle.db_model.specs.declared.tree.Proto.{Proto}
 use Rattle.db_model.specs.Chain.{protocol_run, elements_of, entered, chain, follow, ends, proto_from, onward, is_at_end}
 use Rattle.db_model.specs.Elements.{list}
 use Rattle.db_model.specs.Numbering.{none, names_at, field_names, names_of_protocol}
-use Rattle.db_model.specs.Over.{Point, point, Ends, Leads}
-use Rattle.db_model.specs.Questions.{Asks, Gives, and_then, Log, Step, pure, ◌then◌}
-use Rattle.db_model.specs.Runs.{Went, Run}
+use Rattle.db_model.specs.Over.{point, Ends, Leads}
+use Rattle.db_model.specs.Questions.{Asks, Gives, and_then, Log, Step, ◌then◌}
+use Rattle.db_model.specs.Runs.{Went}
 use Rattle.db_model.specs.Session.{Session}
 use Rattle.db_model.proofs.Over.{ends_gives, ends_first, ends_refused, leads_on, leads_same, leads_then}
 use Rattle.pdl_code.specs.declared.code.Code.{Code}

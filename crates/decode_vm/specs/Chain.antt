@@ -1,12 +1,12 @@
 -- What the engine makes of one protocol after another.
-use Rattle.std.specs.Prelude.{◌≡◌, ℕ, suc, List, ◌∷◌, ◌++◌, slice_get, Option, Some, None, Result, Ok, Err}
+use Rattle.std.specs.Prelude.{◌≡◌, ℕ, suc, List, ◌∷◌, slice_get, Option, Some, None, Result, Ok, Err}
 use Rattle.db_model.specs.declared.database.Database.{Database}
 use Rattle.db_model.specs.declared.env.Frame.{Frame}
 use Rattle.db_model.specs.declared.no_memory.NoMemory.{NoMemory}
 use Rattle.db_model.specs.declared.tree.Proto.{Proto}
 use Rattle.db_model.specs.Chain.{protocol_run, entered, chain, follow, ends, proto_from}
 use Rattle.db_model.specs.Over.{point, Ends}
-use Rattle.db_model.specs.Questions.{Asks, Gives, and_then, Log, Step}
+use Rattle.db_model.specs.Questions.{Gives, and_then, Log, Step}
 use Rattle.db_model.specs.Runs.{Run}
 use Rattle.db_model.specs.Session.{Session}
 use Rattle.decode_vm.specs.declared.chain.Chained.{Chained}

@@ -1,4 +1,4 @@
-use Rattle.std.proofs.Common.{◌≡◌, ◌∙◌, sym, ap, slice_get}
+use Rattle.std.proofs.Common.{◌∙◌, sym, ap, slice_get}
 use Rattle.db_model.specs.declared.database.Database.{Database}
 use Rattle.decode_vm.proofs.Chains.{code_there, entering_placed, has_run, protocol_ends, undeclared}
 use Rattle.decode_vm.proofs.chain.protocol.Goals as goal
