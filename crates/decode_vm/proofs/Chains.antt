@@ -103,9 +103,11 @@ module _ (left : ℕ) (e : Ended) (r : ℕ) (chosen : e.way ≡ Chose r) where
 
   module _ (more : e.frame.env.at < length e.frame.env.packet.bytes) where
     pub none_left : left ≡ zero → (e' : Ended) → e' ≡ record e { nodes = e.nodes ++ Note reason.Protocols e.frame.env.at ∷ [] } → Named left e (Ok None) e'
-    none_left h e' f =
-        (ap (λ (x : Ended). x.frame) f, λ go q from.
-          here false (lt-leb (length e.frame.env.packet.bytes) e.frame.env.at more) left go q from ∙ (ap (λ n. onward false n go q from r e.nodes e.frame) h ∙ ap (λ (x : List Node). ends q from x e.frame) (sym (ap (λ (x : Ended). x.nodes) f))))
+    none_left h e' f = (
+      ap (λ (x : Ended). x.frame) f,
+      λ go q from.
+          here false (lt-leb (length e.frame.env.packet.bytes) e.frame.env.at more) left go q from ∙ (ap (λ n. onward false n go q from r e.nodes e.frame) h ∙ ap (λ (x : List Node). ends q from x e.frame) (sym (ap (λ (x : Ended). x.nodes) f))),
+    )
 
     pub goes_on : 0 < left → Named left e (Ok (Some r)) e
     goes_on h = let k : left ≡ suc (left - 1) = omega arith in (left - 1, k, refl, λ go q from. here false (lt-leb (length e.frame.env.packet.bytes) e.frame.env.at more) (suc (left - 1)) go q from)

@@ -7,8 +7,8 @@ ghost use Rattle.pdl_code.specs.Does.{IsCodeOf};
 
 use crate::list::{Ended, run};
 use db_model::{
-    Answers, CheckedDb, FieldValues, Frame, MOST_ENTERED, NoMemory, Node, Nodes, PacketTree, Proto, Reason, STAMP_END,
-    Way,
+    Answers, CheckedDb, FieldValues, Frame, MOST_ENTERED, NoMemory, Node, Nodes, PacketTree, Proto,
+    Reason, STAMP_END, Way,
 };
 use pdl_code::Code;
 use std::alloc::Global;
