@@ -15,3 +15,4 @@ pub mod Added
 pub mod Updated
 pub mod Acts
 pub mod Stepping
+pub mod Chains

@@ -1,3 +1,4 @@
+pub mod Chain
 pub mod Cost
 pub mod Field
 pub mod Left

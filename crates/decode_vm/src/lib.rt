@@ -1,10 +1,11 @@
 //! The engine: it runs the code of a protocol on a packet, over anything that answers questions. The contract of
 //! `run` says that the nodes, the way in which the list ended and the state behind it are those of the run that the
 //! code does, that exactly the questions of that run were asked, and that some first of them were where memory was
-//! refused.
+//! refused. `follow` does the same for one protocol after another, as each names the next.
 #![tactic(auto)]
 
 mod act;
+mod chain;
 mod choose;
 mod enter;
 mod field;
@@ -18,5 +19,6 @@ mod turn;
 mod update;
 mod values;
 
+pub use chain::{Chained, follow};
 pub use list::{Ended, run};
 pub use steps::Steps;
