@@ -3,22 +3,10 @@ use npd_words::{Plan, WordsFail, read_words};
 use std::alloc::Global;
 use std::test::Fail;
 
-/// What words come to.
-#[derive(Clone, Copy)]
-enum Wanted {
-    /// Database, capture, PDML, PSML, trace and report, empty where none is named; workers, window and packets.
-    Decode([&'static str; 6], [u32; 3]),
-    Check(&'static str),
-    /// Seed, packets, workers and window.
-    Gen([u32; 4]),
-    /// The index of a word, and a code.
-    Fault(u32, u8),
-}
-
-type Case = (&'static [&'static str], Wanted);
-
-/// The most packets that a number may say.
-const ALL: u32 = 4_294_967_295;
+/// Words, and what they come to: a plan with its values in order (`decode` database, capture, PDML, PSML, trace and
+/// report, `~` where none is named, then workers, window and packets; `check` the database; `gen` seed, packets,
+/// workers and window), or `fault` with the index of a word and a code.
+type Case = (&'static [&'static str], &'static str);
 
 /// Words that have a plan.
 const PLANS: [Case; 32] = [
@@ -26,7 +14,7 @@ const PLANS: [Case; 32] = [
         &[
             "decode", "--db", "d", "--cap", "c", "--pdml", "p", "--psml", "s",
         ],
-        Wanted::Decode(["d", "c", "p", "s", "", ""], [4, 64, ALL]),
+        "decode d c p s ~ ~ 4 64 4294967295",
     ),
     (
         &[
@@ -42,7 +30,7 @@ const PLANS: [Case; 32] = [
             "--trace",
             "t",
         ],
-        Wanted::Decode(["d", "c", "p", "", "t", ""], [2, 64, ALL]),
+        "decode d c p ~ t ~ 2 64 4294967295",
     ),
     (
         &[
@@ -56,13 +44,10 @@ const PLANS: [Case; 32] = [
             "--max-packets",
             "2",
         ],
-        Wanted::Decode(["d", "c", "", "", "", "r"], [4, 64, 2]),
+        "decode d c ~ ~ ~ r 4 64 2",
     ),
-    (&["check", "--db", "d"], Wanted::Check("d")),
-    (
-        &["gen", "--seed", "0", "--packets", "1"],
-        Wanted::Gen([0, 1, 0, 64]),
-    ),
+    (&["check", "--db", "d"], "check d"),
+    (&["gen", "--seed", "0", "--packets", "1"], "gen 0 1 0 64"),
     (
         &[
             "gen",
@@ -75,7 +60,7 @@ const PLANS: [Case; 32] = [
             "--window",
             "256",
         ],
-        Wanted::Gen([7, 2000, 4, 256]),
+        "gen 7 2000 4 256",
     ),
     // any order, and values behind `=`
     (
@@ -87,27 +72,27 @@ const PLANS: [Case; 32] = [
             "0",
             "--db=d",
         ],
-        Wanted::Decode(["d", "c", "", "", "", ""], [0, 1, ALL]),
+        "decode d c ~ ~ ~ ~ 0 1 4294967295",
     ),
-    (&["check", "--db=a=b"], Wanted::Check("a=b")),
-    (&["check", "--db=-x"], Wanted::Check("-x")),
-    (&["check", "--db=--db"], Wanted::Check("--db")),
-    (&["check", "--db=="], Wanted::Check("=")),
-    (&["check", "--db", "=x"], Wanted::Check("=x")),
-    (&["check", "--db", "a=b"], Wanted::Check("a=b")),
-    (&["check", "--db", " "], Wanted::Check(" ")),
-    (&["check", "--db", "db"], Wanted::Check("db")),
+    (&["check", "--db=a=b"], "check a=b"),
+    (&["check", "--db=-x"], "check -x"),
+    (&["check", "--db=--db"], "check --db"),
+    (&["check", "--db=="], "check ="),
+    (&["check", "--db", "=x"], "check =x"),
+    (&["check", "--db", "a=b"], "check a=b"),
+    (&["check", "--db", " "], "check  "),
+    (&["check", "--db", "db"], "check db"),
     // `-` alone is a value
-    (&["check", "--db", "-"], Wanted::Check("-")),
-    (&["check", "--db=-"], Wanted::Check("-")),
+    (&["check", "--db", "-"], "check -"),
+    (&["check", "--db=-"], "check -"),
     // `-` once as an input and once as an output
     (
         &["decode", "--db", "-", "--cap", "c", "--pdml", "-"],
-        Wanted::Decode(["-", "c", "-", "", "", ""], [4, 64, ALL]),
+        "decode - c - ~ ~ ~ 4 64 4294967295",
     ),
     (
         &["decode", "--report", "-", "--db", "d", "--cap", "-"],
-        Wanted::Decode(["d", "-", "", "", "", "-"], [4, 64, ALL]),
+        "decode d - ~ ~ ~ - 4 64 4294967295",
     ),
     // a number is no name
     (
@@ -122,28 +107,28 @@ const PLANS: [Case; 32] = [
             "--window",
             "4",
         ],
-        Wanted::Decode(["4", "c", "", "", "", ""], [4, 4, ALL]),
+        "decode 4 c ~ ~ ~ ~ 4 4 4294967295",
     ),
     // the ends of each range
     (
         &["decode", "--db", "d", "--cap", "c", "--workers", "0"],
-        Wanted::Decode(["d", "c", "", "", "", ""], [0, 64, ALL]),
+        "decode d c ~ ~ ~ ~ 0 64 4294967295",
     ),
     (
         &["decode", "--db", "d", "--cap", "c", "--workers", "64"],
-        Wanted::Decode(["d", "c", "", "", "", ""], [64, 64, ALL]),
+        "decode d c ~ ~ ~ ~ 64 64 4294967295",
     ),
     (
         &["decode", "--db", "d", "--cap", "c", "--window", "1"],
-        Wanted::Decode(["d", "c", "", "", "", ""], [4, 1, ALL]),
+        "decode d c ~ ~ ~ ~ 4 1 4294967295",
     ),
     (
         &["decode", "--db", "d", "--cap", "c", "--window", "256"],
-        Wanted::Decode(["d", "c", "", "", "", ""], [4, 256, ALL]),
+        "decode d c ~ ~ ~ ~ 4 256 4294967295",
     ),
     (
         &["decode", "--db", "d", "--cap", "c", "--max-packets", "1"],
-        Wanted::Decode(["d", "c", "", "", "", ""], [4, 64, 1]),
+        "decode d c ~ ~ ~ ~ 4 64 1",
     ),
     (
         &[
@@ -155,15 +140,15 @@ const PLANS: [Case; 32] = [
             "--max-packets",
             "4294967295",
         ],
-        Wanted::Decode(["d", "c", "", "", "", ""], [4, 64, ALL]),
+        "decode d c ~ ~ ~ ~ 4 64 4294967295",
     ),
     (
         &["gen", "--seed", "4294967295", "--packets", "100000"],
-        Wanted::Gen([ALL, 100_000, 0, 64]),
+        "gen 4294967295 100000 0 64",
     ),
     (
         &["gen", "--seed", "1", "--packets", "1", "--workers", "64"],
-        Wanted::Gen([1, 1, 64, 64]),
+        "gen 1 1 64 64",
     ),
     (
         &[
@@ -176,169 +161,155 @@ const PLANS: [Case; 32] = [
             "--window",
             "1",
         ],
-        Wanted::Gen([1, 1, 0, 1]),
+        "gen 1 1 0 1",
     ),
     // up to ten digits
     (
         &["gen", "--seed", "0000000007", "--packets", "01"],
-        Wanted::Gen([7, 1, 0, 64]),
+        "gen 7 1 0 64",
     ),
-    (
-        &["gen", "--packets=3", "--seed=00"],
-        Wanted::Gen([0, 3, 0, 64]),
-    ),
+    (&["gen", "--packets=3", "--seed=00"], "gen 0 3 0 64"),
     // names are compared whole
     (
         &[
             "decode", "--db", "d", "--cap", "D", "--pdml", "dd", "--psml", "./d",
         ],
-        Wanted::Decode(["d", "D", "dd", "./d", "", ""], [4, 64, ALL]),
+        "decode d D dd ./d ~ ~ 4 64 4294967295",
     ),
 ];
 
 /// Words that have a fault.
 const FAULTS: [Case; 83] = [
     // 1: no word
-    (&[], Wanted::Fault(0, 1)),
+    (&[], "fault 0 1"),
     // 2: an unknown command
-    (&["show"], Wanted::Fault(0, 2)),
-    (&[""], Wanted::Fault(0, 2)),
-    (&["Decode"], Wanted::Fault(0, 2)),
-    (&["decodes"], Wanted::Fault(0, 2)),
-    (&["--help"], Wanted::Fault(0, 2)),
-    (&["--db", "d", "check"], Wanted::Fault(0, 2)),
+    (&["show"], "fault 0 2"),
+    (&[""], "fault 0 2"),
+    (&["Decode"], "fault 0 2"),
+    (&["decodes"], "fault 0 2"),
+    (&["--help"], "fault 0 2"),
+    (&["--db", "d", "check"], "fault 0 2"),
     // 3: no option of the command
-    (&["check", "x"], Wanted::Fault(1, 3)),
-    (&["check", ""], Wanted::Fault(1, 3)),
-    (&["check", "-"], Wanted::Fault(1, 3)),
-    (&["check", "--"], Wanted::Fault(1, 3)),
-    (&["check", "="], Wanted::Fault(1, 3)),
-    (&["check", "--help"], Wanted::Fault(1, 3)),
-    (&["check", "--d", "d"], Wanted::Fault(1, 3)),
-    (&["check", "--dbx=d"], Wanted::Fault(1, 3)),
-    (&["check", "-db", "d"], Wanted::Fault(1, 3)),
-    (&["check", "db", "d"], Wanted::Fault(1, 3)),
-    (&["check", "db=d"], Wanted::Fault(1, 3)),
-    (&["check", "--DB", "d"], Wanted::Fault(1, 3)),
-    (&["check", "--cap", "c"], Wanted::Fault(1, 3)),
-    (&["check", "--workers", "1"], Wanted::Fault(1, 3)),
-    (&["decode", "--seed", "1"], Wanted::Fault(1, 3)),
-    (&["gen", "--db", "d"], Wanted::Fault(1, 3)),
-    (&["gen", "--max-packets", "1"], Wanted::Fault(1, 3)),
-    (&["check", "--db", "d", "x"], Wanted::Fault(3, 3)),
-    (&["check", "--db", "d", "-"], Wanted::Fault(3, 3)),
-    (&["check", "--db=d", "d"], Wanted::Fault(2, 3)),
+    (&["check", "x"], "fault 1 3"),
+    (&["check", ""], "fault 1 3"),
+    (&["check", "-"], "fault 1 3"),
+    (&["check", "--"], "fault 1 3"),
+    (&["check", "="], "fault 1 3"),
+    (&["check", "--help"], "fault 1 3"),
+    (&["check", "--d", "d"], "fault 1 3"),
+    (&["check", "--dbx=d"], "fault 1 3"),
+    (&["check", "-db", "d"], "fault 1 3"),
+    (&["check", "db", "d"], "fault 1 3"),
+    (&["check", "db=d"], "fault 1 3"),
+    (&["check", "--DB", "d"], "fault 1 3"),
+    (&["check", "--cap", "c"], "fault 1 3"),
+    (&["check", "--workers", "1"], "fault 1 3"),
+    (&["decode", "--seed", "1"], "fault 1 3"),
+    (&["gen", "--db", "d"], "fault 1 3"),
+    (&["gen", "--max-packets", "1"], "fault 1 3"),
+    (&["check", "--db", "d", "x"], "fault 3 3"),
+    (&["check", "--db", "d", "-"], "fault 3 3"),
+    (&["check", "--db=d", "d"], "fault 2 3"),
     // 4: for the second time
-    (&["decode", "--db", "a", "--db", "b"], Wanted::Fault(3, 4)),
-    (&["decode", "--db", "a", "--db"], Wanted::Fault(3, 4)),
-    (&["decode", "--db", "a", "--db="], Wanted::Fault(3, 4)),
-    (&["decode", "--db", "a", "--db", "-x"], Wanted::Fault(3, 4)),
-    (&["decode", "--db=a", "--db=a"], Wanted::Fault(2, 4)),
+    (&["decode", "--db", "a", "--db", "b"], "fault 3 4"),
+    (&["decode", "--db", "a", "--db"], "fault 3 4"),
+    (&["decode", "--db", "a", "--db="], "fault 3 4"),
+    (&["decode", "--db", "a", "--db", "-x"], "fault 3 4"),
+    (&["decode", "--db=a", "--db=a"], "fault 2 4"),
     (
         &["decode", "--workers", "1", "--workers", "99"],
-        Wanted::Fault(3, 4),
+        "fault 3 4",
     ),
-    (
-        &["gen", "--seed=1", "--packets=1", "--seed=1"],
-        Wanted::Fault(3, 4),
-    ),
+    (&["gen", "--seed=1", "--packets=1", "--seed=1"], "fault 3 4"),
     // 5: no value follows
-    (&["check", "--db"], Wanted::Fault(1, 5)),
-    (&["check", "--db", "--db=d"], Wanted::Fault(1, 5)),
-    (&["check", "--db", "-x"], Wanted::Fault(1, 5)),
-    (&["check", "--db", "--"], Wanted::Fault(1, 5)),
-    (&["check", "--db", "--help"], Wanted::Fault(1, 5)),
-    (&["gen", "--seed", "--packets", "1"], Wanted::Fault(1, 5)),
-    (&["gen", "--seed", "-1"], Wanted::Fault(1, 5)),
-    (&["decode", "--db", "d", "--cap"], Wanted::Fault(3, 5)),
+    (&["check", "--db"], "fault 1 5"),
+    (&["check", "--db", "--db=d"], "fault 1 5"),
+    (&["check", "--db", "-x"], "fault 1 5"),
+    (&["check", "--db", "--"], "fault 1 5"),
+    (&["check", "--db", "--help"], "fault 1 5"),
+    (&["gen", "--seed", "--packets", "1"], "fault 1 5"),
+    (&["gen", "--seed", "-1"], "fault 1 5"),
+    (&["decode", "--db", "d", "--cap"], "fault 3 5"),
     // 6: an empty value
-    (&["check", "--db="], Wanted::Fault(1, 6)),
-    (&["check", "--db", ""], Wanted::Fault(1, 6)),
-    (&["check", "--db=", "d"], Wanted::Fault(1, 6)),
-    (&["decode", "--window="], Wanted::Fault(1, 6)),
-    (&["decode", "--window", ""], Wanted::Fault(1, 6)),
+    (&["check", "--db="], "fault 1 6"),
+    (&["check", "--db", ""], "fault 1 6"),
+    (&["check", "--db=", "d"], "fault 1 6"),
+    (&["decode", "--window="], "fault 1 6"),
+    (&["decode", "--window", ""], "fault 1 6"),
     // 7: no number in range
     (
         &["decode", "--db", "d", "--cap", "c", "--workers", "65"],
-        Wanted::Fault(5, 7),
+        "fault 5 7",
     ),
-    (&["decode", "--window", "0"], Wanted::Fault(1, 7)),
-    (&["decode", "--window=257"], Wanted::Fault(1, 7)),
-    (&["decode", "--max-packets", "0"], Wanted::Fault(1, 7)),
-    (
-        &["decode", "--max-packets", "4294967296"],
-        Wanted::Fault(1, 7),
-    ),
-    (
-        &["decode", "--max-packets", "9999999999"],
-        Wanted::Fault(1, 7),
-    ),
-    (&["decode", "--window", "00000000001"], Wanted::Fault(1, 7)),
-    (&["decode", "--window", "-"], Wanted::Fault(1, 7)),
-    (&["decode", "--window=-1"], Wanted::Fault(1, 7)),
-    (&["decode", "--window", "+1"], Wanted::Fault(1, 7)),
-    (&["decode", "--window", "0x1"], Wanted::Fault(1, 7)),
-    (&["decode", "--window", " 1"], Wanted::Fault(1, 7)),
-    (&["decode", "--window", "1."], Wanted::Fault(1, 7)),
-    (&["decode", "--window", "x"], Wanted::Fault(1, 7)),
-    (&["gen", "--seed", "4294967296"], Wanted::Fault(1, 7)),
-    (&["gen", "--packets", "0"], Wanted::Fault(1, 7)),
-    (&["gen", "--packets", "100001"], Wanted::Fault(1, 7)),
-    (&["gen", "--workers", "65"], Wanted::Fault(1, 7)),
-    (&["gen", "--window", "0"], Wanted::Fault(1, 7)),
-    (&["gen", "--window", "257"], Wanted::Fault(1, 7)),
+    (&["decode", "--window", "0"], "fault 1 7"),
+    (&["decode", "--window=257"], "fault 1 7"),
+    (&["decode", "--max-packets", "0"], "fault 1 7"),
+    (&["decode", "--max-packets", "4294967296"], "fault 1 7"),
+    (&["decode", "--max-packets", "9999999999"], "fault 1 7"),
+    (&["decode", "--window", "00000000001"], "fault 1 7"),
+    (&["decode", "--window", "-"], "fault 1 7"),
+    (&["decode", "--window=-1"], "fault 1 7"),
+    (&["decode", "--window", "+1"], "fault 1 7"),
+    (&["decode", "--window", "0x1"], "fault 1 7"),
+    (&["decode", "--window", " 1"], "fault 1 7"),
+    (&["decode", "--window", "1."], "fault 1 7"),
+    (&["decode", "--window", "x"], "fault 1 7"),
+    (&["gen", "--seed", "4294967296"], "fault 1 7"),
+    (&["gen", "--packets", "0"], "fault 1 7"),
+    (&["gen", "--packets", "100001"], "fault 1 7"),
+    (&["gen", "--workers", "65"], "fault 1 7"),
+    (&["gen", "--window", "0"], "fault 1 7"),
+    (&["gen", "--window", "257"], "fault 1 7"),
     // 8: a required option is missing
-    (&["decode"], Wanted::Fault(1, 8)),
-    (&["check"], Wanted::Fault(1, 8)),
-    (&["decode", "--db", "d"], Wanted::Fault(3, 8)),
-    (&["decode", "--cap=c"], Wanted::Fault(2, 8)),
-    (&["gen", "--seed", "1"], Wanted::Fault(3, 8)),
-    (&["gen", "--packets=1"], Wanted::Fault(2, 8)),
-    (&["decode", "--db", "d", "--pdml", "d"], Wanted::Fault(5, 8)),
+    (&["decode"], "fault 1 8"),
+    (&["check"], "fault 1 8"),
+    (&["decode", "--db", "d"], "fault 3 8"),
+    (&["decode", "--cap=c"], "fault 2 8"),
+    (&["gen", "--seed", "1"], "fault 3 8"),
+    (&["gen", "--packets=1"], "fault 2 8"),
+    (&["decode", "--db", "d", "--pdml", "d"], "fault 5 8"),
     // and not before a later word is read
-    (&["decode", "--db", "d", "x"], Wanted::Fault(3, 3)),
+    (&["decode", "--db", "d", "x"], "fault 3 3"),
     // 9: two files with one name
-    (&["decode", "--db", "a", "--cap", "a"], Wanted::Fault(3, 9)),
-    (&["decode", "--db", "-", "--cap", "-"], Wanted::Fault(3, 9)),
-    (
-        &["decode", "--db=d", "--cap=c", "--pdml=d"],
-        Wanted::Fault(3, 9),
-    ),
+    (&["decode", "--db", "a", "--cap", "a"], "fault 3 9"),
+    (&["decode", "--db", "-", "--cap", "-"], "fault 3 9"),
+    (&["decode", "--db=d", "--cap=c", "--pdml=d"], "fault 3 9"),
     (
         &["decode", "--pdml", "d", "--cap", "c", "--db", "d"],
-        Wanted::Fault(5, 9),
+        "fault 5 9",
     ),
     (
         &[
             "decode", "--db", "d", "--cap", "c", "--pdml", "-", "--psml", "-",
         ],
-        Wanted::Fault(7, 9),
+        "fault 7 9",
     ),
     (
         &["decode", "--db=d", "--cap=c", "--trace", "t", "--report=t"],
-        Wanted::Fault(5, 9),
+        "fault 5 9",
     ),
     (
         &[
             "decode", "--db", "d", "--cap", "c", "--psml", "c", "--pdml", "d",
         ],
-        Wanted::Fault(5, 9),
+        "fault 5 9",
     ),
     (
         &["decode", "--pdml", "-", "--db", "-", "--cap", "-"],
-        Wanted::Fault(5, 9),
+        "fault 5 9",
     ),
 ];
 
-fn is_name(word: &Option<Word>, text: &str) -> bool {
-    match word {
-        Some(word) => word.as_str() == text,
-        None => text.is_empty(),
+/// The name of a file, or `~` where none is named.
+fn name(file: &Option<Word>) -> &str {
+    match file {
+        Some(file) => file.as_str(),
+        None => "~",
     }
 }
 
-fn is_decode(plan: &Plan, files: [&str; 6], numbers: [u32; 3]) -> bool {
-    match plan {
+fn described(alloc: Global, plan: &Plan) -> Result<String, NoMemory> {
+    let text = match plan {
         Plan::Decode {
             db,
             cap,
@@ -350,58 +321,20 @@ fn is_decode(plan: &Plan, files: [&str; 6], numbers: [u32; 3]) -> bool {
             window,
             max,
         } => {
-            db.as_str() == files[0]
-                && cap.as_str() == files[1]
-                && is_name(pdml, files[2])
-                && is_name(psml, files[3])
-                && is_name(trace, files[4])
-                && is_name(report, files[5])
-                && *workers == numbers[0]
-                && *window == numbers[1]
-                && *max == numbers[2]
+            let inputs = format!(in alloc; "{} {}", db.as_str(), cap.as_str())?;
+            let texts = format!(in alloc; "{} {}", name(pdml), name(psml))?;
+            let notes = format!(in alloc; "{} {}", name(trace), name(report))?;
+            format!(in alloc; "decode {inputs} {texts} {notes} {workers} {window} {max}")?
         }
-        _ => false,
-    }
-}
-
-fn is_check(plan: &Plan, file: &str) -> bool {
-    match plan {
-        Plan::Check { db } => db.as_str() == file,
-        _ => false,
-    }
-}
-
-fn is_gen(plan: &Plan, numbers: [u32; 4]) -> bool {
-    match plan {
+        Plan::Check { db } => format!(in alloc; "check {}", db.as_str())?,
         Plan::Gen {
             seed,
             packets,
             workers,
             window,
-        } => {
-            *seed == numbers[0]
-                && *packets == numbers[1]
-                && *workers == numbers[2]
-                && *window == numbers[3]
-        }
-        _ => false,
-    }
-}
-
-fn is_plan(plan: &Plan, wanted: Wanted) -> bool {
-    match wanted {
-        Wanted::Decode(files, numbers) => is_decode(plan, files, numbers),
-        Wanted::Check(file) => is_check(plan, file),
-        Wanted::Gen(numbers) => is_gen(plan, numbers),
-        Wanted::Fault(_, _) => false,
-    }
-}
-
-fn is_fault(wanted: Wanted, index: u32, code: u8) -> bool {
-    match wanted {
-        Wanted::Fault(at, kind) => at == index && kind == code,
-        _ => false,
-    }
+        } => format!(in alloc; "gen {seed} {packets} {workers} {window}")?,
+    };
+    Ok(text)
 }
 
 /// The plan of words, of which there are few; no plan where there are many.
@@ -416,10 +349,13 @@ pub fn plan_of(alloc: Global, texts: &[&str]) -> Result<Plan, WordsFail> {
     read_words(alloc, words.as_slice())
 }
 
-fn come_to(alloc: Global, texts: &[&str], wanted: Wanted) -> Result<bool, NoMemory> {
+fn come_to(alloc: Global, texts: &[&str]) -> Result<String, NoMemory> {
     match plan_of(alloc, texts) {
-        Ok(plan) => Ok(is_plan(&plan, wanted)),
-        Err(WordsFail::Fault { index, code }) => Ok(is_fault(wanted, index, code)),
+        Ok(plan) => described(alloc, &plan),
+        Err(WordsFail::Fault { index, code }) => {
+            let text = format!(in alloc; "fault {index} {code}")?;
+            Ok(text)
+        }
         Err(WordsFail::NoMemory) => Err(NoMemory),
     }
 }
@@ -427,8 +363,8 @@ fn come_to(alloc: Global, texts: &[&str], wanted: Wanted) -> Result<bool, NoMemo
 #[test]
 fn words_have_their_plans(rt: HostRuntime) -> Result<(), Fail> {
     for (texts, wanted) in &PLANS {
-        let is_so = come_to(rt.alloc(), texts, *wanted)?;
-        assert!(rt; is_so);
+        let found = come_to(rt.alloc(), texts)?;
+        assert!(rt; found.as_str() == *wanted);
     }
     Ok(())
 }
@@ -436,8 +372,8 @@ fn words_have_their_plans(rt: HostRuntime) -> Result<(), Fail> {
 #[test]
 fn words_have_their_faults(rt: HostRuntime) -> Result<(), Fail> {
     for (texts, wanted) in &FAULTS {
-        let is_so = come_to(rt.alloc(), texts, *wanted)?;
-        assert!(rt; is_so);
+        let found = come_to(rt.alloc(), texts)?;
+        assert!(rt; found.as_str() == *wanted);
     }
     Ok(())
 }

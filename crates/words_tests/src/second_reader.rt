@@ -1,5 +1,6 @@
 use crate::plans::plan_of;
 use clap::{Arg, ArgAction, ArgMatches, Command};
+use db_model::Word;
 use npd_words::{Plan, WordsFail};
 use std::alloc::{AllocError, Global};
 use std::test::Fail;
@@ -27,24 +28,32 @@ fn command<'a>(alloc: Global) -> Result<Command<'a>, AllocError> {
     Command::new(alloc, "npd").subcommand(decode)
 }
 
+fn name(file: &Option<Word>) -> Option<&str> {
+    match file {
+        Some(file) => Some(file.as_str()),
+        None => None,
+    }
+}
+
 /// Whether the plan of the words has the names that were found in them.
 fn has_names(alloc: Global, found: &ArgMatches<'_>) -> Result<bool, WordsFail> {
-    match plan_of(alloc, &WORDS[1..])? {
+    let plan = plan_of(alloc, &WORDS[1..])?;
+    match &plan {
         Plan::Decode {
             db,
             cap,
-            pdml: Some(pdml),
-            psml: Some(psml),
-            trace: None,
-            report: None,
+            pdml,
+            psml,
+            trace,
+            report,
             ..
         } => Ok(
             found.get_str("db") == Some(db.as_str())
                 && found.get_str("cap") == Some(cap.as_str())
-                && found.get_str("pdml") == Some(pdml.as_str())
-                && found.get_str("psml") == Some(psml.as_str())
-                && !found.contains_id("trace")
-                && !found.contains_id("report"),
+                && found.get_str("pdml") == name(pdml)
+                && found.get_str("psml") == name(psml)
+                && found.get_str("trace") == name(trace)
+                && found.get_str("report") == name(report),
         ),
         _ => Ok(false),
     }
