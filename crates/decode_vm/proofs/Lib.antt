@@ -16,3 +16,5 @@ pub mod Updated
 pub mod Acts
 pub mod Stepping
 pub mod Chains
+pub mod Decodes
+pub mod Payload

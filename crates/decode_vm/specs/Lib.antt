@@ -1,5 +1,6 @@
 pub mod Chain
 pub mod Cost
+pub mod Decode
 pub mod Field
 pub mod Left
 pub mod Machine

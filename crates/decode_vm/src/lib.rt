@@ -12,6 +12,7 @@ mod field;
 mod list;
 mod machine;
 mod masks;
+mod packet;
 mod resume;
 mod set;
 mod steps;
@@ -21,4 +22,5 @@ mod values;
 
 pub use chain::{Chained, follow};
 pub use list::{Ended, run};
+pub use packet::decode;
 pub use steps::Steps;
