@@ -1,7 +1,6 @@
 ghost use Rattle.std.specs.Prelude.{◌≡◌, ◌+◌, ◌<◌, ◌++◌, OnOk};
 ghost use Rattle.db_model.specs.Decoding.{payload};
 ghost use Rattle.decode_vm.specs.Decode.{Decodes};
-ghost use Rattle.decode_vm.specs.Run.{IsPlaced};
 ghost use Rattle.pdl_code.specs.Does.{IsCodeOf};
 
 use crate::chain::{Chained, follow};
