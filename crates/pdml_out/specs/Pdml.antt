@@ -25,10 +25,14 @@ use Rattle.show.specs.Stamps.{timestamp}
 
 -- ---- the lines
 
--- the name of something, and its longname right behind it where there is one
+-- the longname of something, where it has one
+abbrev pub longnamed : Option (List ℕ) → List ℕ
+longnamed None = []
+longnamed (Some longname) = codes " longname=\"" ++ (escaped longname ++ codes "\"")
+
+-- the name of something, and its longname right behind it
 unfoldable pub named : Text → Option (List ℕ) → List ℕ
-named name None = codes " name=\"" ++ (name ++ codes "\"")
-named name (Some longname) = codes " name=\"" ++ (name ++ (codes "\" longname=\"" ++ (escaped longname ++ codes "\"")))
+named name longname = codes " name=\"" ++ (name ++ (codes "\"" ++ longnamed longname))
 
 -- the position and the size of something
 unfoldable pub placed : ℕ → ℕ → List ℕ
@@ -44,8 +48,11 @@ field_line naming pos size value show =
     codes "<field" ++ (naming ++ (valued pos size value ++ (codes " show=\"" ++ (escaped show ++ codes "\"/>\n"))))
 
 -- a block with the lines of its nodes
-unfoldable pub block_lines : List ℕ → ℕ → ℕ → List ℕ → List ℕ
-block_lines naming pos size nodes = codes "<block" ++ (naming ++ (placed pos size ++ (codes ">\n" ++ (nodes ++ codes "</block>\n"))))
+unfoldable pub block_line : List ℕ → ℕ → ℕ → List ℕ
+block_line naming pos size = codes "<block" ++ (naming ++ (placed pos size ++ codes ">\n"))
+
+abbrev pub block_lines : List ℕ → ℕ → ℕ → List ℕ → List ℕ
+block_lines naming pos size nodes = block_line naming pos size ++ (nodes ++ codes "</block>\n")
 
 -- a protocol with the lines of its nodes
 unfoldable pub proto_lines : List ℕ → ℕ → ℕ → List ℕ → List ℕ

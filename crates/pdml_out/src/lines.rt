@@ -6,6 +6,19 @@ ghost use Rattle.pdml_out.specs.Pdml;
 use db_model::{Bytes, NoMemory, Protocol, Reason};
 use show::{BlockLabel, FieldLabel, TextForm, push, push_hex, push_number, push_written};
 
+fn push_longname(text: &mut Vec<u8>, longname: &Option<Bytes>) -> Result<(), NoMemory>
+    ensures { OnOk result (text.new.items ≡ text.old.items ++ Pdml.longnamed longname.now) }
+{
+    match longname {
+        Some(longname) => {
+            push(text, b" longname=\"")?;
+            push_written(text, TextForm::Markup, longname.as_slice())?;
+            push(text, b"\"")
+        }
+        None => Ok(()),
+    }
+}
+
 /// Adds a name, and a longname right behind it where there is one.
 #[tactic(auto, unfolding(crate::specs::Pdml::named))]
 pub fn push_named(
@@ -17,14 +30,8 @@ pub fn push_named(
 {
     push(text, b" name=\"")?;
     push(text, name)?;
-    match longname {
-        Some(longname) => {
-            push(text, b"\" longname=\"")?;
-            push_written(text, TextForm::Markup, longname.as_slice())?;
-            push(text, b"\"")
-        }
-        None => push(text, b"\""),
-    }
+    push(text, b"\"")?;
+    push_longname(text, longname)
 }
 
 /// Adds the name of a field, an empty one where it isn't declared. The same for blocks and protocols below.

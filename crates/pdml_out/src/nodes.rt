@@ -5,7 +5,7 @@ ghost use Rattle.pdml_out.specs.Pdml;
 
 use crate::lines::{push_block_name, push_field_name, push_note, push_placed, push_valued};
 use db_model::{CheckedDb, NoMemory, Node};
-use show::{FieldLabel, Labels, TextForm, push, push_field_shown};
+use show::{BlockLabel, FieldLabel, Labels, TextForm, push, push_field_shown};
 
 /// Adds a field of a declared protocol.
 #[tactic(auto, unfolding(crate::specs::Pdml::field_line))]
@@ -26,6 +26,23 @@ fn push_field(
     push(text, b" show=\"")?;
     push_field_shown(text, TextForm::Markup, db, label, value)?;
     push(text, b"\"/>\n")
+}
+
+/// Adds the line that opens a block.
+#[tactic(auto, unfolding(crate::specs::Pdml::block_line))]
+fn push_block_line(
+    text: &mut Vec<u8>,
+    label: Option<&BlockLabel>,
+    pos: u32,
+    size: u32,
+) -> Result<(), NoMemory>
+    ensures { OnOk result (text.new.items ≡
+        text.old.items ++ Pdml.block_line (Pdml.block_named (option_copied label.entry)) pos size) }
+{
+    push(text, b"<block")?;
+    push_block_name(text, label)?;
+    push_placed(text, pos, size)?;
+    push(text, b">\n")
 }
 
 /// Adds the nodes of the protocol of this number, in order.
@@ -79,10 +96,7 @@ fn push_node(
             size,
             nodes,
         } => {
-            push(text, b"<block")?;
-            push_block_name(text, labels.block(protocol, *block))?;
-            push_placed(text, *pos, *size)?;
-            push(text, b">\n")?;
+            push_block_line(text, labels.block(protocol, *block), *pos, *size)?;
             push_nodes(text, db, labels, protocol, nodes.as_slice())?;
             push(text, b"</block>\n")
         }

@@ -1,6 +1,7 @@
-ghost use Rattle.std.specs.Prelude.{◌≡◌, ◌++◌, IfOk, OnOk, codes, map, slice_get};
+ghost use Rattle.std.specs.Prelude.{◌≡◌, ◌++◌, IfOk, OnOk, None, codes, map};
 ghost use Rattle.std.specs.List.{flat_map};
 ghost use Rattle.show.specs.Labels.{labels_of};
+ghost use Rattle.show.specs.Shown;
 ghost use Rattle.pdml_out.specs.Pdml;
 
 use crate::lines::{push_named, push_placed, push_protocol_name, push_valued};
@@ -38,7 +39,7 @@ fn push_payload_field(
     value: &[u8],
 ) -> Result<(), NoMemory>
     ensures { OnOk result (text.new.items ≡
-        text.old.items ++ Pdml.field_line (Pdml.named (codes "data") None) pos size value.now (map character value.now)) }
+        text.old.items ++ Pdml.field_line (Pdml.named (codes "data") None) pos size value.now (map Shown.character value.now)) }
 {
     push(text, b"<field")?;
     push_named(text, b"data", &None)?;
