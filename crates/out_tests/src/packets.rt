@@ -50,7 +50,8 @@ fn frame_tree(alloc: Global) -> Result<PacketTree, NoMemory> {
     then(tree, (PAYLOAD, 2, 1), payload)
 }
 
-const FRAME_TEXT: &[u8] = b"<packet number=\"0\" caplen=\"3\" length=\"3\" timestamp=\"0.000001000\">
+const FRAME_TEXT: &[u8] =
+    b"<packet number=\"0\" caplen=\"3\" length=\"3\" timestamp=\"0.000001000\">
 <proto name=\"startproto\" pos=\"0\" size=\"0\">
 </proto>
 <proto name=\"frame\" pos=\"0\" size=\"2\">
@@ -74,23 +75,46 @@ fn empty_tree(alloc: Global) -> Result<PacketTree, NoMemory> {
     then(PacketTree::new(alloc), (0, 0, 0), Nodes::new(alloc))
 }
 
-const EMPTY_TEXT: &[u8] = b"<packet number=\"0\" caplen=\"0\" length=\"0\" timestamp=\"5.000000007\">
+const EMPTY_TEXT: &[u8] =
+    b"<packet number=\"0\" caplen=\"0\" length=\"0\" timestamp=\"5.000000007\">
 <proto name=\"startproto\" pos=\"0\" size=\"0\">
 </proto>
 </packet>
 ";
 
 /// The second of these is the last moment that a packet may have.
-const MOMENTS: &[u8] = b"<packet number=\"18446744073709551615\" caplen=\"1\" length=\"4294967295\" timestamp=\"4299999999.999999999\">
+const MOMENTS: &[u8] =
+    b"<packet number=\"18446744073709551615\" caplen=\"1\" length=\"4294967295\" timestamp=\"4299999999.999999999\">
 </packet>
 ";
 
 #[test]
 fn packets_without_bytes(rt: HostRuntime) -> Result<(), Fail> {
     let tree = empty_tree(rt.alloc())?;
-    assert!(rt; is_text(rt.alloc(), FRAME, (0, 5_000_000_007, 0, 0), &tree, EMPTY_TEXT)?);
-    let last = (18_446_744_073_709_551_615, 4_299_999_999_999_999_999, 4_294_967_295, 1);
-    assert!(rt; is_text(rt.alloc(), FRAME, last, &PacketTree::new(rt.alloc()), MOMENTS)?);
+    assert!(rt;
+        is_text(
+            rt.alloc(),
+            FRAME,
+            (0, 5_000_000_007, 0, 0),
+            &tree,
+            EMPTY_TEXT
+        )?
+    );
+    let last = (
+        18_446_744_073_709_551_615,
+        4_299_999_999_999_999_999,
+        4_294_967_295,
+        1,
+    );
+    assert!(rt;
+        is_text(
+            rt.alloc(),
+            FRAME,
+            last,
+            &PacketTree::new(rt.alloc()),
+            MOMENTS
+        )?
+    );
     Ok(())
 }
 
@@ -123,7 +147,8 @@ fn layers_tree(alloc: Global) -> Result<PacketTree, NoMemory> {
     then(tree, (3, 34, 4), fields(alloc, &TRANSPORT)?)
 }
 
-const LAYERS_TEXT: &[u8] = b"<packet number=\"0\" caplen=\"54\" length=\"54\" timestamp=\"1.000000000\">
+const LAYERS_TEXT: &[u8] =
+    b"<packet number=\"0\" caplen=\"54\" length=\"54\" timestamp=\"1.000000000\">
 <proto name=\"startproto\" pos=\"0\" size=\"0\">
 </proto>
 <proto name=\"ethernet\" longname=\"Ethernet\" pos=\"0\" size=\"14\">
@@ -155,10 +180,15 @@ const LAYERS_TEXT: &[u8] = b"<packet number=\"0\" caplen=\"54\" length=\"54\" ti
 fn cut_tree(alloc: Global) -> Result<PacketTree, NoMemory> {
     let nodes = with(fields(alloc, &LINK[..2])?, note(Reason::Short, 12))?;
     let tree = then(empty_tree(alloc)?, (1, 0, 12), nodes)?;
-    then(tree, (PAYLOAD, 12, 1), fields(alloc, &[(0, 12, 1, b"\x08")])?)
+    then(
+        tree,
+        (PAYLOAD, 12, 1),
+        fields(alloc, &[(0, 12, 1, b"\x08")])?,
+    )
 }
 
-const CUT_TEXT: &[u8] = b"<packet number=\"0\" caplen=\"13\" length=\"13\" timestamp=\"0.000000000\">
+const CUT_TEXT: &[u8] =
+    b"<packet number=\"0\" caplen=\"13\" length=\"13\" timestamp=\"0.000000000\">
 <proto name=\"startproto\" pos=\"0\" size=\"0\">
 </proto>
 <proto name=\"ethernet\" longname=\"Ethernet\" pos=\"0\" size=\"12\">
@@ -175,7 +205,15 @@ const CUT_TEXT: &[u8] = b"<packet number=\"0\" caplen=\"13\" length=\"13\" times
 #[test]
 fn protocols_with_templates_and_longnames(rt: HostRuntime) -> Result<(), Fail> {
     let tree = layers_tree(rt.alloc())?;
-    assert!(rt; is_text(rt.alloc(), LAYERS, (0, 1_000_000_000, 54, 54), &tree, LAYERS_TEXT)?);
+    assert!(rt;
+        is_text(
+            rt.alloc(),
+            LAYERS,
+            (0, 1_000_000_000, 54, 54),
+            &tree,
+            LAYERS_TEXT
+        )?
+    );
     let tree = cut_tree(rt.alloc())?;
     assert!(rt; is_text(rt.alloc(), LAYERS, (0, 0, 13, 13), &tree, CUT_TEXT)?);
     Ok(())
@@ -184,9 +222,15 @@ fn protocols_with_templates_and_longnames(rt: HostRuntime) -> Result<(), Fail> {
 /// A block in a block, then one that was included, with a note in it.
 fn nested_nodes(alloc: Global) -> Result<Nodes, NoMemory> {
     let deep = fields(alloc, &[(3, 9, 2, b"&<")])?;
-    let inner = with(fields(alloc, &[(2, 5, 4, b"<\"&>")])?, block((1, 9, 2), deep))?;
+    let inner = with(
+        fields(alloc, &[(2, 5, 4, b"<\"&>")])?,
+        block((1, 9, 2), deep),
+    )?;
     let inner = with(inner, field(alloc, (2, 11, 0, b""))?)?;
-    let named = with(fields(alloc, &[(5, 11, 1, b"\n")])?, note(Reason::Turns, 12))?;
+    let named = with(
+        fields(alloc, &[(5, 11, 1, b"\n")])?,
+        note(Reason::Turns, 12),
+    )?;
     let nodes = fields(alloc, &[(0, 0, 1, b"&"), (1, 1, 4, b"\xc0\xa8\x00\x01")])?;
     let nodes = with(nodes, block((0, 5, 6), inner))?;
     let nodes = with(nodes, block((2, 11, 1), named))?;
@@ -199,12 +243,20 @@ fn nested_nodes(alloc: Global) -> Result<Nodes, NoMemory> {
 fn nested_tree(alloc: Global) -> Result<PacketTree, NoMemory> {
     let tree = then(PacketTree::new(alloc), (0, 0, 12), nested_nodes(alloc)?)?;
     let unknown = fields(alloc, &[(6, 12, 1, b"A")])?;
-    let nodes = with(fields(alloc, &[(0, 12, 1, b"A")])?, block((5, 12, 1), unknown))?;
+    let nodes = with(
+        fields(alloc, &[(0, 12, 1, b"A")])?,
+        block((5, 12, 1), unknown),
+    )?;
     let tree = then(tree, (1, 12, 1), nodes)?;
-    then(tree, (PAYLOAD, 12, 4), fields(alloc, &[(0, 12, 4, b"&<\"\x7f")])?)
+    then(
+        tree,
+        (PAYLOAD, 12, 4),
+        fields(alloc, &[(0, 12, 4, b"&<\"\x7f")])?,
+    )
 }
 
-const NESTED_TEXT: &[u8] = b"<packet number=\"7\" caplen=\"16\" length=\"60\" timestamp=\"1.000000009\">
+const NESTED_TEXT: &[u8] =
+    b"<packet number=\"7\" caplen=\"16\" length=\"60\" timestamp=\"1.000000009\">
 <proto name=\"startproto\" longname=\"a &quot;first&quot; &lt;one&gt; &amp; more\" pos=\"0\" size=\"12\">
 <field name=\"a\" longname=\"the &lt;a&gt;\" pos=\"0\" size=\"1\" value=\"26\" show=\"26\"/>
 <field name=\"b\" pos=\"1\" size=\"4\" value=\"c0a80001\" show=\"192.168.0.1\"/>
@@ -240,7 +292,15 @@ const NESTED_TEXT: &[u8] = b"<packet number=\"7\" caplen=\"16\" length=\"60\" ti
 #[test]
 fn nodes_stand_between_the_lines_of_their_block(rt: HostRuntime) -> Result<(), Fail> {
     let tree = nested_tree(rt.alloc())?;
-    assert!(rt; is_text(rt.alloc(), NESTED, (7, 1_000_000_009, 60, 16), &tree, NESTED_TEXT)?);
+    assert!(rt;
+        is_text(
+            rt.alloc(),
+            NESTED,
+            (7, 1_000_000_009, 60, 16),
+            &tree,
+            NESTED_TEXT
+        )?
+    );
     Ok(())
 }
 
@@ -249,8 +309,14 @@ const REASONS: [(Reason, &[u8]); 13] = [
     (Reason::Short, b"<note reason=\"short\" pos=\"4\"/>\n"),
     (Reason::Turns, b"<note reason=\"turns\" pos=\"4\"/>\n"),
     (Reason::Nodes, b"<note reason=\"nodes\" pos=\"4\"/>\n"),
-    (Reason::Protocols, b"<note reason=\"protocols\" pos=\"4\"/>\n"),
-    (Reason::Questions, b"<note reason=\"questions\" pos=\"4\"/>\n"),
+    (
+        Reason::Protocols,
+        b"<note reason=\"protocols\" pos=\"4\"/>\n",
+    ),
+    (
+        Reason::Questions,
+        b"<note reason=\"questions\" pos=\"4\"/>\n",
+    ),
     (Reason::NoField, b"<note reason=\"nofield\" pos=\"4\"/>\n"),
     (Reason::NoHit, b"<note reason=\"nohit\" pos=\"4\"/>\n"),
     (Reason::Range, b"<note reason=\"range\" pos=\"4\"/>\n"),
@@ -288,6 +354,8 @@ fn each_reason_has_its_word(rt: HostRuntime) -> Result<(), Fail> {
 
 #[test]
 fn what_stands_around_the_packets(rt: HostRuntime) {
-    assert!(rt; opening() == b"<?xml version=\"1.0\"?>\n<pdml version=\"0\" creator=\"npd\">\n".as_slice());
+    assert!(rt;
+        opening() == b"<?xml version=\"1.0\"?>\n<pdml version=\"0\" creator=\"npd\">\n".as_slice()
+    );
     assert!(rt; closing() == b"</pdml>\n".as_slice());
 }

@@ -55,11 +55,7 @@ pub fn with(nodes: Nodes, node: Node) -> Result<Nodes, NoMemory> {
 }
 
 /// A tree with one more protocol: its number, its position and its size.
-pub fn then(
-    tree: PacketTree,
-    part: (u16, u32, u32),
-    nodes: Nodes,
-) -> Result<PacketTree, NoMemory> {
+pub fn then(tree: PacketTree, part: (u16, u32, u32), nodes: Nodes) -> Result<PacketTree, NoMemory> {
     let (number, pos, size) = part;
     let mut all = tree;
     all.push(Proto {

@@ -6,7 +6,4 @@ mod lines;
 mod nodes;
 mod packet;
 
-pub use packet::closing;
-pub use packet::opening;
-pub use packet::packet_text;
-pub use packet::push_packet_text;
+pub use packet::{closing, opening, packet_text, push_packet_text};

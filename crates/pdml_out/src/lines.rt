@@ -21,11 +21,7 @@ fn push_longname(text: &mut Vec<u8>, longname: &Option<Bytes>) -> Result<(), NoM
 
 /// Adds a name, and a longname right behind it where there is one.
 #[tactic(auto, unfolding(crate::specs::Pdml::named))]
-pub fn push_named(
-    text: &mut Vec<u8>,
-    name: &[u8],
-    longname: &Option<Bytes>,
-) -> Result<(), NoMemory>
+pub fn push_named(text: &mut Vec<u8>, name: &[u8], longname: &Option<Bytes>) -> Result<(), NoMemory>
     ensures { OnOk result (text.new.items ≡ text.old.items ++ Pdml.named name.now longname.now) }
 {
     push(text, b" name=\"")?;

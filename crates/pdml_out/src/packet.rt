@@ -32,12 +32,7 @@ fn push_protocol(
 
 /// Adds the field of the payload.
 #[tactic(auto, unfolding(crate::specs::Pdml::field_line))]
-fn push_payload_field(
-    text: &mut Vec<u8>,
-    pos: u32,
-    size: u32,
-    value: &[u8],
-) -> Result<(), NoMemory>
+fn push_payload_field(text: &mut Vec<u8>, pos: u32, size: u32, value: &[u8]) -> Result<(), NoMemory>
     ensures { OnOk result (text.new.items ≡
         text.old.items ++ Pdml.field_line (Pdml.named (codes "data") None) pos size value.now (map Shown.character value.now)) }
 {

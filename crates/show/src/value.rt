@@ -78,7 +78,7 @@ fn push_groups(
     requires decimal { template.now.show_type ≡ ShowType.Dec → size ≤ 4 }
     ensures { OnOk result (text.new.items ≡
         text.old.items ++ written form
-            (join_by (group_shown template.now.show_type) template.now.separator (cut (length bytes.now) size bytes.now))) }
+        (join_by (group_shown template.now.show_type) template.now.separator (cut (length bytes.now) size bytes.now))) }
 {
     let mut rest = bytes;
     while rest.len() > size {

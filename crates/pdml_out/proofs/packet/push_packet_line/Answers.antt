@@ -19,6 +19,6 @@ returns c =
     let captured : decimal (length c.as_slice.result.now) ≡ decimal (length p.bytes) = ap (λ (l : List ℕ). decimal (length l)) c.as_slice.ensures.bytes in
     let whole : decimal c.from.result ≡ decimal p.length = ap decimal c.from.ensures in
     let e = nine c.args.text.now.items c.push.new.text.items c.push_number.new.text.items c.push-2.new.text.items c.push_number-2.new.text.items c.push-3.new.text.items c.push_number-3.new.text.items c.push-4.new.text.items c.push_timestamp.new.text.items
-        (codes "<packet number=\"") (decimal p.number) (codes "\" caplen=\"") (decimal (length p.bytes)) (codes "\" length=\"") (decimal p.length) (codes "\" timestamp=\"") (timestamp p.stamp) (codes "\">\n")
-        c.in_ok-push.ensures c.in_ok-push_number.ensures c.in_ok-push-2.ensures (c.in_ok-push_number-2.ensures ∙ ap (λ (l : List ℕ). c.push-2.new.text.items ++ l) captured) c.in_ok-push-3.ensures (c.in_ok-push_number-3.ensures ∙ ap (λ (l : List ℕ). c.push-3.new.text.items ++ l) whole) c.in_ok-push-4.ensures c.in_ok-push_timestamp.ensures in
+    (codes "<packet number=\"") (decimal p.number) (codes "\" caplen=\"") (decimal (length p.bytes)) (codes "\" length=\"") (decimal p.length) (codes "\" timestamp=\"") (timestamp p.stamp) (codes "\">\n")
+    c.in_ok-push.ensures c.in_ok-push_number.ensures c.in_ok-push-2.ensures (c.in_ok-push_number-2.ensures ∙ ap (λ (l : List ℕ). c.push-2.new.text.items ++ l) captured) c.in_ok-push-3.ensures (c.in_ok-push_number-3.ensures ∙ ap (λ (l : List ℕ). c.push-3.new.text.items ++ l) whole) c.in_ok-push-4.ensures c.in_ok-push_timestamp.ensures in
     subst (λ (l : List ℕ). OnOk c.push-5.result (c.push-5.new.text.items ≡ l)) e c.push-5.ensures

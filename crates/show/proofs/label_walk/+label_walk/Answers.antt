@@ -17,7 +17,7 @@ add_element-returns-in_ok-add_block_label-in-Block t c =
     let e = labels_are ts c.args.element.now _ _ c.in-Block.is (labels_block ts c.in-Block.line c.in-Block.name c.in-Block.longname c.in-Block.body) in
     let body = ap (labels_in ts) c.as_slice.ensures in
     subst (λ (l : ProtocolLabels). OnOk c.add_elements.result (c.add_elements.new.labels ≡ l))
-        (ap (then c.add_block_label.new.labels) body ∙ both_behind c.args.labels.now c.add_block_label.new.labels label (labels_in ts c.in-Block.body) (labels_of_element ts c.args.element.now) c.in_ok-add_block_label-in-Block.ensures e) c.add_elements.ensures
+    (ap (then c.add_block_label.new.labels) body ∙ both_behind c.args.labels.now c.add_block_label.new.labels label (labels_in ts c.in-Block.body) (labels_of_element ts c.args.element.now) c.in_ok-add_block_label-in-Block.ensures e) c.add_elements.ensures
 
 pub add_element-returns-in-Loop : goal.add_element-returns-in-Loop
 add_element-returns-in-Loop t c =

@@ -12,9 +12,9 @@ loop-rest-preserved c =
     let size = c.args.size in
     let rest = c.loop-rest.rest.now in
     let group : c.push_group.new.text.items ≡ c.loop-rest.text.items ++ written form (group_shown kind (take size rest)) =
-        c.in_ok-push_group.ensures ∙ ap (λ (g : List ℕ). c.loop-rest.text.items ++ written form (group_shown kind g)) c.split_at.ensures.front in
+    c.in_ok-push_group.ensures ∙ ap (λ (g : List ℕ). c.loop-rest.text.items ++ written form (group_shown kind g)) c.split_at.ensures.front in
     let between : c.push_written.new.text.items ≡ c.push_group.new.text.items ++ written form separator =
-        c.in_ok-push_written.ensures ∙ ap (λ (s : List ℕ). c.push_group.new.text.items ++ written form s) c.as_slice.ensures.bytes in
+    c.in_ok-push_written.ensures ∙ ap (λ (s : List ℕ). c.push_group.new.text.items ++ written form s) c.as_slice.ensures.bytes in
     record {
       some = omega arith;
       text = subst (λ (bs : List ℕ). c.push_written.new.text.items ++ grouped form (group_shown kind) separator size bs ≡ c.args.text.now.items ++ grouped form (group_shown kind) separator size c.args.bytes.now) (sym c.split_at.ensures.back)
