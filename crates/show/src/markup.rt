@@ -1,11 +1,11 @@
-ghost use Rattle.std.specs.Prelude.{◌≡◌, ◌++◌, OnOk, codes};
+ghost use Rattle.std.specs.Prelude.{◌≡◌, ◌++◌, ◌∷◌, [], OnOk, codes};
 ghost use Rattle.show.specs.Markup;
 
 use crate::text::push;
 use db_model::NoMemory;
 
 /// How a text is written.
-#[derive(Clone, Copy, PartialEq, Eq)]
+#[derive(Clone, Copy)]
 pub enum TextForm {
     /// As it is.
     Plain,
@@ -23,8 +23,15 @@ fn push_entity(text: &mut Vec<u8>, byte: u8) -> Result<(), NoMemory>
         b'<' => push(text, b"&lt;"),
         b'>' => push(text, b"&gt;"),
         b'"' => push(text, b"&quot;"),
-        _ => push(text, &[byte]),
+        _ => push_one(text, byte),
     }
+}
+
+fn push_one(text: &mut Vec<u8>, byte: u8) -> Result<(), NoMemory>
+    ensures { OnOk result (text.new.items ≡ text.old.items ++ byte ∷ []) }
+{
+    text.push(byte)?;
+    Ok(())
 }
 
 fn push_escaped(text: &mut Vec<u8>, bytes: &[u8]) -> Result<(), NoMemory>
@@ -34,6 +41,16 @@ fn push_escaped(text: &mut Vec<u8>, bytes: &[u8]) -> Result<(), NoMemory>
         push_entity(text, *byte)?;
     }
     Ok(())
+}
+
+/// Adds a byte in a form.
+pub fn push_byte(text: &mut Vec<u8>, form: TextForm, byte: u8) -> Result<(), NoMemory>
+    ensures { OnOk result (text.new.items ≡ text.old.items ++ Markup.written form (byte ∷ [])) }
+{
+    match form {
+        TextForm::Plain => push_one(text, byte),
+        TextForm::Markup => push_entity(text, byte),
+    }
 }
 
 /// Adds a text in a form.

@@ -6,7 +6,7 @@ ghost use Rattle.show.specs.Markup.{written};
 ghost use Rattle.show.specs.Shown;
 ghost use Rattle.show.specs.Shown.{IsShowable, cut, group_shown, shown};
 
-use crate::markup::{TextForm, push_written};
+use crate::markup::{TextForm, push_byte, push_written};
 use crate::text::{push_hex, push_number};
 use db_model::{NoMemory, ShowTemplate, ShowType};
 use std::alloc::Global;
@@ -136,7 +136,7 @@ pub fn push_characters(text: &mut Vec<u8>, form: TextForm, bytes: &[u8]) -> Resu
         text.old.items ++ written form (map Shown.character bytes.now)) }
 {
     for byte in bytes {
-        push_written(text, form, &[character(*byte)])?;
+        push_byte(text, form, character(*byte))?;
     }
     Ok(())
 }
