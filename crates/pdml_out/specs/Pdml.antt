@@ -47,10 +47,11 @@ unfoldable pub field_line : List ℕ → ℕ → ℕ → List ℕ → List ℕ �
 field_line naming pos size value show =
     codes "<field" ++ (naming ++ (valued pos size value ++ (codes " show=\"" ++ (escaped show ++ codes "\"/>\n"))))
 
--- a block with the lines of its nodes
+-- the line that opens a block
 unfoldable pub block_line : List ℕ → ℕ → ℕ → List ℕ
 block_line naming pos size = codes "<block" ++ (naming ++ (placed pos size ++ codes ">\n"))
 
+-- a block with the lines of its nodes
 abbrev pub block_lines : List ℕ → ℕ → ℕ → List ℕ → List ℕ
 block_lines naming pos size nodes = block_line naming pos size ++ (nodes ++ codes "</block>\n")
 
