@@ -10,3 +10,4 @@ pub mod Whole
 pub mod Included
 pub mod Declarations
 pub mod Acyclic
+pub mod Ordered

@@ -11,3 +11,4 @@ pub mod Entries
 pub mod Home
 pub mod Graph
 pub mod Uses
+pub mod Order

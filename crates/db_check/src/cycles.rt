@@ -8,11 +8,13 @@ ghost use Rattle.db_model.specs.NameFaults.{block_names};
 ghost use Rattle.db_check.specs.First.{first};
 ghost use Rattle.db_check.specs.Graph.{numbers, includes_of_cases, includes_of_other, graph_of, leads_here, cycles_from, comes_before};
 ghost use Rattle.db_check.specs.Home.{IsHome};
+ghost use Rattle.db_check.specs.Order.{IsOrdered};
 
 use crate::first::at_line;
 use crate::home::Home;
+use crate::order::{Ordered, turns};
 use crate::parts;
-use crate::search::{Graph, leads_back};
+use crate::search::Graph;
 use db_laws::cycles_found;
 use db_model::{Branch, Case, Element, Fault, Name, NamedBlock, NoMemory, Sequence};
 use std::alloc::Global;
@@ -119,18 +121,19 @@ fn graph(alloc: Global, home: &Home) -> Result<Graph, NoMemory>
 /// Whether the block of this number is the first of its name and includes itself.
 fn leads_here(
     alloc: Global,
-    graph: &Graph,
+    ordered: &Ordered,
     number: usize,
     name: &Name,
     home: &Home,
 ) -> Result<bool, NoMemory>
-    requires { IsHome home.now }
-    ensures { IfOk result (λ r. r ≡ leads_here graph.now (block_names home.now.protocol.now) number name.now) }
+    requires home { IsHome home.now }
+    requires order { IsOrdered ordered.now }
+    ensures { IfOk result (λ r. r ≡ leads_here ordered.now.graph.now (block_names home.now.protocol.now) number name.now) }
 {
     if home.block_at(name.as_slice()) < number {
         return Ok(false);
     }
-    leads_back(alloc, graph, number)
+    ordered.leads_back(alloc, number)
 }
 
 /// Whether what was found comes before a fault of this kind at a line.
@@ -147,34 +150,36 @@ fn comes_before(found: Option<Fault>, line: u32) -> bool
 #[tactic(auto, using(crate::proofs::Including::found_stays))]
 fn with_block(
     alloc: Global,
-    graph: &Graph,
+    ordered: &Ordered,
     number: usize,
     block: &NamedBlock,
     home: &Home,
     found: Option<Fault>,
 ) -> Result<Option<Fault>, NoMemory>
-    requires { IsHome home.now }
-    ensures { IfOk result (λ f. f ≡ earlier found (first 45 (at_line block.now.line (leads_here graph.now (block_names home.now.protocol.now) number block.now.name)))) }
+    requires home { IsHome home.now }
+    requires order { IsOrdered ordered.now }
+    ensures { IfOk result (λ f. f ≡ earlier found (first 45 (at_line block.now.line (leads_here ordered.now.graph.now (block_names home.now.protocol.now) number block.now.name)))) }
 {
     if comes_before(found, block.line) {
         return Ok(found);
     }
-    let wrong = leads_here(alloc, graph, number, &block.name, home)?;
+    let wrong = leads_here(alloc, ordered, number, &block.name, home)?;
     Ok(Fault::earlier(found, at_line(block.line, 45, wrong)))
 }
 
 fn in_graph(
     alloc: Global,
-    graph: &Graph,
+    ordered: &Ordered,
     blocks: &[NamedBlock],
     home: &Home,
 ) -> Result<Option<Fault>, NoMemory>
-    requires { IsHome home.now }
-    ensures { IfOk result (λ f. f ≡ first 45 (cycles_from graph.now (block_names home.now.protocol.now) 0 blocks.now)) }
+    requires home { IsHome home.now }
+    requires order { IsOrdered ordered.now }
+    ensures { IfOk result (λ f. f ≡ first 45 (cycles_from ordered.now.graph.now (block_names home.now.protocol.now) 0 blocks.now)) }
 {
     let mut found = None;
     for (number, block) in blocks.iter().enumerate() {
-        found = with_block(alloc, graph, number, block, home, found)?;
+        found = with_block(alloc, ordered, number, block, home, found)?;
     }
     Ok(found)
 }
@@ -186,5 +191,10 @@ pub fn cycles(alloc: Global, home: &Home) -> Result<Option<Fault>, NoMemory>
 {
     cycles_found();
     let graph = graph(alloc, home)?;
-    in_graph(alloc, &graph, parts::named_blocks(home.protocol), home)
+    let turns = turns(alloc, &graph)?;
+    let ordered = Ordered {
+        graph: &graph,
+        turns: turns.as_slice(),
+    };
+    in_graph(alloc, &ordered, parts::named_blocks(home.protocol), home)
 }

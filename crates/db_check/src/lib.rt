@@ -17,12 +17,14 @@ mod located;
 mod nested;
 mod numbers;
 mod objection;
+mod order;
 mod own;
 mod parts;
 mod repeats;
 mod rows;
 mod search;
 mod tables;
+mod turns;
 mod uses;
 mod walk;
 

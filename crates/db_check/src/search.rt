@@ -80,7 +80,7 @@ impl Search {
     }
 }
 
-fn targets_of(graph: &Graph, number: usize) -> &[usize]
+pub fn targets_of(graph: &Graph, number: usize) -> &[usize]
     ensures { result.now ≡ Graph.edges graph.now number }
 {
     match graph.get(number) {
