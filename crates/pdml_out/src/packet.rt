@@ -1,0 +1,184 @@
+ghost use Rattle.std.specs.Prelude.{◌≡◌, ◌++◌, IfOk, OnOk, codes, map, slice_get};
+ghost use Rattle.std.specs.List.{flat_map};
+ghost use Rattle.show.specs.Labels.{labels_of};
+ghost use Rattle.pdml_out.specs.Pdml;
+
+use crate::lines::{push_named, push_placed, push_protocol_name, push_valued};
+use crate::nodes::push_nodes;
+use db_model::{CheckedDb, NoMemory, Node, PAYLOAD, Packet, PacketTree, Proto};
+use show::{Labels, TextForm, push, push_characters, push_number, push_timestamp};
+use std::alloc::Global;
+
+/// Adds a protocol of the database.
+#[tactic(auto, unfolding(crate::specs::Pdml::proto_lines))]
+fn push_protocol(
+    text: &mut Vec<u8>,
+    db: &CheckedDb,
+    labels: &Labels,
+    proto: &Proto,
+) -> Result<(), NoMemory>
+    requires { labels.now ≡ labels_of db.now }
+    ensures { OnOk result (text.new.items ≡ text.old.items ++ Pdml.protocol_text db.now proto.now) }
+{
+    let protocol = db.database().protocols.get(proto.number as usize);
+    push(text, b"<proto")?;
+    push_protocol_name(text, protocol)?;
+    push_placed(text, proto.pos, proto.size)?;
+    push(text, b">\n")?;
+    push_nodes(text, db, labels, proto.number, proto.nodes.as_slice())?;
+    push(text, b"</proto>\n")
+}
+
+/// Adds the field of the payload.
+#[tactic(auto, unfolding(crate::specs::Pdml::field_line))]
+fn push_payload_field(
+    text: &mut Vec<u8>,
+    pos: u32,
+    size: u32,
+    value: &[u8],
+) -> Result<(), NoMemory>
+    ensures { OnOk result (text.new.items ≡
+        text.old.items ++ Pdml.field_line (Pdml.named (codes "data") None) pos size value.now (map character value.now)) }
+{
+    push(text, b"<field")?;
+    push_named(text, b"data", &None)?;
+    push_valued(text, pos, size, value)?;
+    push(text, b" show=\"")?;
+    push_characters(text, TextForm::Markup, value)?;
+    push(text, b"\"/>\n")
+}
+
+fn push_payload_node(text: &mut Vec<u8>, node: &Node) -> Result<(), NoMemory>
+    ensures { OnOk result (text.new.items ≡ text.old.items ++ Pdml.payload_node_text node.now) }
+{
+    match node {
+        Node::Field {
+            pos,
+            size,
+            value,
+            ..
+        } => push_payload_field(text, *pos, *size, value.as_slice()),
+        _ => Ok(()),
+    }
+}
+
+fn push_payload_nodes(text: &mut Vec<u8>, nodes: &[Node]) -> Result<(), NoMemory>
+    ensures { OnOk result (text.new.items ≡
+        text.old.items ++ flat_map Pdml.payload_node_text nodes.now) }
+{
+    for node in nodes {
+        push_payload_node(text, node)?;
+    }
+    Ok(())
+}
+
+/// Adds the payload.
+#[tactic(auto, unfolding(crate::specs::Pdml::proto_lines))]
+fn push_payload(text: &mut Vec<u8>, proto: &Proto) -> Result<(), NoMemory>
+    ensures { OnOk result (text.new.items ≡ text.old.items ++ Pdml.payload_text proto.now) }
+{
+    push(text, b"<proto")?;
+    push_named(text, b"payload", &None)?;
+    push_placed(text, proto.pos, proto.size)?;
+    push(text, b">\n")?;
+    push_payload_nodes(text, proto.nodes.as_slice())?;
+    push(text, b"</proto>\n")
+}
+
+/// Adds a protocol of the tree.
+#[tactic(auto, unfolding(crate::specs::Pdml::proto_text))]
+fn push_proto(
+    text: &mut Vec<u8>,
+    db: &CheckedDb,
+    labels: &Labels,
+    proto: &Proto,
+) -> Result<(), NoMemory>
+    requires { labels.now ≡ labels_of db.now }
+    ensures { OnOk result (text.new.items ≡ text.old.items ++ Pdml.proto_text db.now proto.now) }
+{
+    if proto.number == PAYLOAD {
+        push_payload(text, proto)
+    } else {
+        push_protocol(text, db, labels, proto)
+    }
+}
+
+fn push_protos(
+    text: &mut Vec<u8>,
+    db: &CheckedDb,
+    labels: &Labels,
+    protos: &[Proto],
+) -> Result<(), NoMemory>
+    requires { labels.now ≡ labels_of db.now }
+    ensures { OnOk result (text.new.items ≡
+        text.old.items ++ flat_map (Pdml.proto_text db.now) protos.now) }
+{
+    for proto in protos {
+        push_proto(text, db, labels, proto)?;
+    }
+    Ok(())
+}
+
+/// Adds the line that opens a packet.
+#[tactic(auto, unfolding(crate::specs::Pdml::packet_line))]
+fn push_packet_line(text: &mut Vec<u8>, packet: &Packet) -> Result<(), NoMemory>
+    ensures { OnOk result (text.new.items ≡ text.old.items ++ Pdml.packet_line packet.now) }
+{
+    push(text, b"<packet number=\"")?;
+    push_number(text, packet.number)?;
+    push(text, b"\" caplen=\"")?;
+    push_number(text, packet.bytes.as_slice().len() as u64)?;
+    push(text, b"\" length=\"")?;
+    push_number(text, u64::from(packet.length))?;
+    push(text, b"\" timestamp=\"")?;
+    push_timestamp(text, packet.stamp)?;
+    push(text, b"\">\n")
+}
+
+/// Adds the text of a packet with its tree. A buffer that is cleared and handed in again keeps its room.
+#[tactic(auto, unfolding(crate::specs::Pdml::packet_text))]
+pub fn push_packet_text(
+    text: &mut Vec<u8>,
+    db: &CheckedDb,
+    labels: &Labels,
+    packet: &Packet,
+    tree: &PacketTree,
+) -> Result<(), NoMemory>
+    requires { labels.now ≡ labels_of db.now }
+    ensures { OnOk result (text.new.items ≡
+        text.old.items ++ Pdml.packet_text db.now packet.now tree.now) }
+{
+    push_packet_line(text, packet)?;
+    push_protos(text, db, labels, tree.as_slice())?;
+    push(text, b"</packet>\n")
+}
+
+/// The text of a packet with its tree.
+pub fn packet_text(
+    alloc: Global,
+    db: &CheckedDb,
+    labels: &Labels,
+    packet: &Packet,
+    tree: &PacketTree,
+) -> Result<Vec<u8>, NoMemory>
+    requires { labels.now ≡ labels_of db.now }
+    ensures { IfOk result (λ text. text.items ≡ Pdml.packet_text db.now packet.now tree.now) }
+{
+    let mut text = Vec::new(alloc);
+    push_packet_text(&mut text, db, labels, packet, tree)?;
+    Ok(text)
+}
+
+/// What stands before the packets. Takes no memory.
+pub fn opening() -> &'static [u8]
+    ensures { result.now ≡ Pdml.opening }
+{
+    b"<?xml version=\"1.0\"?>\n<pdml version=\"0\" creator=\"npd\">\n"
+}
+
+/// What stands behind the packets. Takes no memory.
+pub fn closing() -> &'static [u8]
+    ensures { result.now ≡ Pdml.closing }
+{
+    b"</pdml>\n"
+}

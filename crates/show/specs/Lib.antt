@@ -1,0 +1,5 @@
+pub mod Labels
+pub mod Markup
+pub mod NodeFold
+pub mod Shown
+pub mod Stamps

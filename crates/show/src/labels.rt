@@ -1,0 +1,117 @@
+ghost use Rattle.std.specs.Prelude.{◌≡◌, ◌++◌, IfOk, OnOk};
+ghost use Rattle.std.specs.Option.{option_copied};
+ghost use Rattle.show.specs.Labels.{block_at, field_at, field_shown, labels_of};
+ghost use Rattle.show.specs.Labels as naming;
+ghost use Rattle.show.specs.Markup.{written};
+ghost use Rattle.show.specs.Shown.{IsShowable};
+
+use crate::label_walk::protocol_labels;
+use crate::markup::TextForm;
+use crate::value::push_shown;
+use db_model::{Bytes, CheckedDb, Name, NoMemory, Sequence, ShowTemplate};
+use std::alloc::Global;
+use std::marker::Model;
+
+/// What a field is called and by what it is shown.
+#[derive(Drop)]
+pub struct FieldLabel {
+    pub name: Name,
+    pub longname: Option<Bytes>,
+    /// The place of its template among the show templates of its database.
+    pub template: Option<usize>,
+}
+
+/// What a block is called.
+#[derive(Drop)]
+pub struct BlockLabel {
+    pub name: Name,
+    pub longname: Option<Bytes>,
+}
+
+/// The labels of the fields and of the blocks of one protocol, by their numbers.
+#[derive(Drop)]
+pub struct ProtocolLabels {
+    pub fields: Sequence<FieldLabel>,
+    pub blocks: Sequence<BlockLabel>,
+}
+
+/// What a database calls the fields and blocks of each of its protocols, so that no output walks over declarations.
+#[derive(Drop)]
+pub struct Labels {
+    protocols: Sequence<ProtocolLabels>,
+}
+
+impl Model for Labels {
+    ghost use Rattle.std.specs.Prelude.{List};
+    ghost use Rattle.std.specs.Coded.{coded_list};
+    ghost use Rattle.show.specs.declared.labels.ProtocolLabels.{ProtocolLabels};
+    ghost use Rattle.show.specs.contracts.labels.ProtocolLabels as contract;
+
+    ghost Value = { List ProtocolLabels };
+
+    ghost coded = { coded_list contract.the_row.coded };
+
+    ghost view = { λ l. l.protocols };
+}
+
+impl Labels {
+    pub fn of(alloc: Global, db: &CheckedDb) -> Result<Labels, NoMemory>
+        ensures { IfOk result (λ labels. labels ≡ labels_of db.now) }
+    {
+        let database = db.database();
+        let mut protocols = Sequence::new(alloc);
+        for protocol in database.protocols.as_slice() {
+            let templates = database.show_templates.as_slice();
+            protocols.push(protocol_labels(alloc, templates, protocol)?)?;
+        }
+        Ok(Labels { protocols })
+    }
+
+    /// The label of the field of this number in the protocol of this number, None where there is no such field.
+    pub fn field(&self, protocol: u16, number: u32) -> Option<&FieldLabel>
+        ensures { option_copied result ≡ field_at self.now protocol number }
+    {
+        match self.protocols.get(protocol as usize) {
+            Some(labels) => labels.fields.get(number as usize),
+            None => None,
+        }
+    }
+
+    /// The same for blocks.
+    pub fn block(&self, protocol: u16, number: u32) -> Option<&BlockLabel>
+        ensures { option_copied result ≡ block_at self.now protocol number }
+    {
+        match self.protocols.get(protocol as usize) {
+            Some(labels) => labels.blocks.get(number as usize),
+            None => None,
+        }
+    }
+}
+
+/// The template by which a field of this label is shown, None where it is shown in plain hex.
+pub fn template_of<'a>(db: &'a CheckedDb, label: Option<&FieldLabel>) -> Option<&'a ShowTemplate>
+    ensures template { option_copied result ≡ naming.template_of db.now (option_copied label.entry) }
+    ensures showable { IsShowable (option_copied result) }
+{
+    match label {
+        Some(label) => match label.template {
+            Some(place) => db.database().show_templates.get(place),
+            None => None,
+        },
+        None => None,
+    }
+}
+
+/// Adds the value of a field of this label as it is shown.
+pub fn push_field_shown(
+    text: &mut Vec<u8>,
+    form: TextForm,
+    db: &CheckedDb,
+    label: Option<&FieldLabel>,
+    value: &[u8],
+) -> Result<(), NoMemory>
+    ensures { OnOk result (text.new.items ≡
+        text.old.items ++ written form (field_shown db.now (option_copied label.entry) value.now)) }
+{
+    push_shown(text, form, template_of(db, label), value)
+}
