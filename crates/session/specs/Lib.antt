@@ -1,0 +1,4 @@
+pub mod Entries
+pub mod Forms
+pub mod State
+pub mod Tables
