@@ -13,8 +13,10 @@ use Rattle.pcap_in.proofs.Records.{tested, tested-one, length-record, captured-h
 
 pub header_is_front : HeaderIsFront
 header_is_front form head more h is =
-    ap (λ (r : Result Form End). from_header r (head ++ more)) (header-append head more h ∙ is)
-    ∙ ap (records form 0 24) (drop_at head more 24 h)
+    let e : header (head ++ more) ≡ Ok form = header-append head more h ∙ is in (
+      e,
+      ap (λ (r : Result Form End). from_header r (head ++ more)) e ∙ ap (records form 0 24) (drop_at head more 24 h),
+    )
 
 -- a record that stands there is no longer than a record may be
 one-short : (long short : Bool) (n c : ℕ) (one : Step) (packet : Packet) (rest : List ℕ) → cond (eqb n 0) AtEnd (cond (ltb n 16) (NoRecord 4) (cond long (NoRecord 5) (cond short (NoRecord 6) one))) ≡ One packet rest → long ≡ false

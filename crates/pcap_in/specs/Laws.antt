@@ -26,9 +26,9 @@ abbrev pub SeenIsRead : Type 0
 SeenIsRead = (b : List ℕ) (packets : List Packet) (rest : Seen) (most : ℕ)
     → 0 < most → cap b ≡ with_front packets rest → IsSeenSoFar b packets rest most
 
--- behind a header at the front of some bytes stand the records of the others
+-- a header at the front of some bytes is theirs, and behind it stand the records of the others
 abbrev pub HeaderIsFront : Type 0
-HeaderIsFront = (form : Form) (head more : List ℕ) → length head ≡ 24 → header head ≡ Ok form → cap (head ++ more) ≡ records form 0 24 more
+HeaderIsFront = (form : Form) (head more : List ℕ) → length head ≡ 24 → header head ≡ Ok form → (header (head ++ more) ≡ Ok form) × (cap (head ++ more) ≡ records form 0 24 more)
 
 -- a record at the front of some bytes is that record, and then come the records of the others
 abbrev pub RecordIsFront : Type 0
