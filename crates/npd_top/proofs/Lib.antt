@@ -1,10 +1,10 @@
+pub mod Causes
 pub mod Checks
 pub mod Complete
-pub mod Cuts
 pub mod Ids
-pub mod Limits
 pub mod Opening
-pub mod Pieces
+pub mod Outcomes
 pub mod Runs
 pub mod Texts
+pub mod Told
 pub mod Turns

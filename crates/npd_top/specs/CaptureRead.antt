@@ -94,4 +94,6 @@ abbrev pub LimitTakes : Result Status Status → List ℕ → Type 0
 LimitTakes (Ok Done) bytes = Unit {0}
 LimitTakes (Ok other) bytes = ⊥
 LimitTakes (Err (Read Cap)) bytes = bytes ≡ []
-LimitTakes (Err other) bytes = Unit {0}
+LimitTakes (Err NoMemory) bytes = Unit {0}
+LimitTakes (Err (Unbuilt part.Capture)) bytes = Unit {0}
+LimitTakes (Err other) bytes = ⊥

@@ -15,10 +15,12 @@ use crate::capture::{Following, at_limit, next_packet};
 use crate::decoder::Decoder;
 use crate::output::write_piece;
 use crate::status::{Role, Status, refused};
+use db_laws::serial_front;
 use db_model::{Answers, Packet};
 use decode_vm::Steps;
 use npd_host::{Host, OutId};
 use pcap_in::CapReader;
+use pcap_in::laws::fronts_tell;
 use pdml_out::{closing, opening};
 use std::sync::ledger::{Blank, Ledger};
 
@@ -107,6 +109,8 @@ fn write_packets<H: Host, A: Answers, L: Ledger>(
     ensures cause { IfErr result (HasPacketsCause ((H.inputs host.old).name reader.id.0)
         ((H.outputs host.old).name out.0) (H.faults host.old) (H.faults host.new)) }
 {
+    serial_front();
+    fronts_tell();
     write_piece(host, out, opening())?;
     for _count in 0..most {
         if let Some(status) = pass_packet(host, &mut reader, out, decoder, steps)? {
@@ -145,6 +149,7 @@ fn write_output<H: Host, A: Answers, L: Ledger>(
     ensures cause { HasPacketsCause ((H.inputs host.old).name reader.id.0)
         ((H.outputs host.old).name out.0) (H.faults host.old) (H.faults host.new) result }
 {
+    serial_front();
     match write_packets(host, reader, out, decoder, most, steps) {
         Ok(status) => match write_piece(host, out, closing()) {
             Ok(()) => status,

@@ -16,6 +16,7 @@ use crate::status::{Part, Status};
 use crate::totals::{totals_line, totals_of};
 use db_model::NoMemory;
 use npd_host::Host;
+use pcap_in::laws::{fronts_tell, seen_is_read};
 use session::Session;
 use std::alloc::Global;
 use std::marker::Brand;
@@ -30,6 +31,8 @@ fn run_decode<H: Host>(alloc: Global, host: &mut H, files: &DecodeFiles) -> Stat
     ensures files { H.files host.new ≡ H.files host.old }
     ensures later { NoneFalls (H.faults host.old) (H.faults host.new) }
 {
+    seen_is_read();
+    fronts_tell();
     // One byte more than a database has, so that a longer text is seen.
     let mut decoder = match load_decoder(alloc, host, files.db.as_str(), MOST_DATABASE + 1) {
         Ok(decoder) => decoder,
