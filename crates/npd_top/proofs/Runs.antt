@@ -17,7 +17,6 @@ use Rattle.npd_top.specs.declared.status.Status.TheVariants.{Done, Open, Read, W
 use Rattle.npd_top.specs.Accepted.{IsAccepted, HasServed, is_served}
 use Rattle.npd_top.specs.CaptureRead.{IsBehindHeader, IsOpen, CaptureOpens}
 use Rattle.npd_top.specs.Causes.{HasServedCause, HasCaptureCause}
-use Rattle.npd_top.specs.Decoder.{Decoder}
 use Rattle.npd_top.specs.DecodeRun.{IsHeader, ByHeader, GaveOf, Finds, IsDone, IsBroken, IsLimited, IsCut, HasProperFront, HasFront, DecodeSays}
 use Rattle.npd_top.specs.Loaded.{ServedIs}
 use Rattle.npd_top.specs.Outputs.{open_text, whole_text}
@@ -143,56 +142,56 @@ module _ (rests : Rests) (db : model.Database) (name : List ℕ) (file : Option 
         (subst (λ (s : capture.Seen). T (open_text Pdml db s.packets)) (sym stands.1) is.text))
 
 -- what a status says whose run came behind the header of the capture
-pub says_decoded : Rests → (status : Status) (files : DecodeFiles) (before after : Outside) (mid now : Inputs) (decoder : Decoder) (reader : Reader) → IfSome (before.files files.db) (ServedIs (Ok decoder))
-    → IsOpen reader files.cap (before.files files.cap) mid now → KeepsIds before.inputs mid → PdmlIs decoder.db 4294967295 files.pdml status reader now after.inputs before.outputs after.outputs → DecodeSays status files before after
-says_decoded rests Done files before after mid now decoder reader database opens keeps is =
-    finds_of (before.files files.db) (before.files files.cap) decoder.db (IsDone files before after) database
-    (told_map (before.files files.cap) (IsBehindHeader reader now) (IsDone files before after decoder.db) (λ bytes behind.
-    done_of rests decoder.db files.cap (before.files files.cap) before.inputs mid now after.inputs reader opens keeps 4294967295 (omega arith)
+pub says_decoded : Rests → (status : Status) (files : DecodeFiles) (before after : Outside) (mid now : Inputs) (db : model.Database) (reader : Reader) → IfSome (before.files files.db) (λ text. IsAccepted text db × (is_served db ≡ true))
+    → IsOpen reader files.cap (before.files files.cap) mid now → KeepsIds before.inputs mid → PdmlIs db 4294967295 files.pdml status reader now after.inputs before.outputs after.outputs → DecodeSays status files before after
+says_decoded rests Done files before after mid now db reader database opens keeps is =
+    finds_of (before.files files.db) (before.files files.cap) db (IsDone files before after) database
+    (told_map (before.files files.cap) (IsBehindHeader reader now) (IsDone files before after db) (λ bytes behind.
+    done_of rests db files.cap (before.files files.cap) before.inputs mid now after.inputs reader opens keeps 4294967295 (omega arith)
     (Wrote before.outputs after.outputs files.pdml) (WrotePart before.outputs after.outputs files.pdml) (WroteFront before.outputs after.outputs files.pdml) bytes behind is) opens.behind)
-says_decoded rests (Open Db) files before after mid now decoder reader database opens keeps is = absurd is
-says_decoded rests (Open Cap) files before after mid now decoder reader database opens keeps is = absurd is
-says_decoded rests (Open Pdml) files before after mid now decoder reader database opens keeps is =
-    (is, finds_of (before.files files.db) (before.files files.cap) decoder.db (λ db bytes. IsHeader (capture.header bytes)) database
+says_decoded rests (Open Db) files before after mid now db reader database opens keeps is = absurd is
+says_decoded rests (Open Cap) files before after mid now db reader database opens keeps is = absurd is
+says_decoded rests (Open Pdml) files before after mid now db reader database opens keeps is =
+    (is, finds_of (before.files files.db) (before.files files.cap) db (λ db bytes. IsHeader (capture.header bytes)) database
     (told_map (before.files files.cap) (IsBehindHeader reader now) (λ bytes. IsHeader (capture.header bytes)) (λ bytes behind. header_so bytes reader.form behind.header_is) opens.behind))
-says_decoded rests (Open Out) files before after mid now decoder reader database opens keeps is = absurd is
-says_decoded rests (Read Db) files before after mid now decoder reader database opens keeps is = absurd is
-says_decoded rests (Read Cap) files before after mid now decoder reader database opens keeps is =
-    finds_of (before.files files.db) (before.files files.cap) decoder.db (IsCut files before after) database
-    (told_map (before.files files.cap) (IsBehindHeader reader now) (IsCut files before after decoder.db) (λ bytes behind.
-    cut_of rests decoder.db files.cap (before.files files.cap) before.inputs mid now after.inputs reader opens keeps 4294967295 (omega arith)
+says_decoded rests (Open Out) files before after mid now db reader database opens keeps is = absurd is
+says_decoded rests (Read Db) files before after mid now db reader database opens keeps is = absurd is
+says_decoded rests (Read Cap) files before after mid now db reader database opens keeps is =
+    finds_of (before.files files.db) (before.files files.cap) db (IsCut files before after) database
+    (told_map (before.files files.cap) (IsBehindHeader reader now) (IsCut files before after db) (λ bytes behind.
+    cut_of rests db files.cap (before.files files.cap) before.inputs mid now after.inputs reader opens keeps 4294967295 (omega arith)
     (Wrote before.outputs after.outputs files.pdml) (WrotePart before.outputs after.outputs files.pdml) (WroteFront before.outputs after.outputs files.pdml) (WroteNothing before after) bytes behind is) opens.behind)
-says_decoded rests (Read Pdml) files before after mid now decoder reader database opens keeps is = absurd is
-says_decoded rests (Read Out) files before after mid now decoder reader database opens keeps is = absurd is
-says_decoded rests (Write Db) files before after mid now decoder reader database opens keeps is = absurd is
-says_decoded rests (Write Cap) files before after mid now decoder reader database opens keeps is = absurd is
-says_decoded rests (Write Pdml) files before after mid now decoder reader database opens keeps is =
-    finds_of (before.files files.db) (before.files files.cap) decoder.db (HasProperFront files before after) database
-    (told_map (before.files files.cap) (IsBehindHeader reader now) (HasProperFront files before after decoder.db) (λ bytes behind.
+says_decoded rests (Read Pdml) files before after mid now db reader database opens keeps is = absurd is
+says_decoded rests (Read Out) files before after mid now db reader database opens keeps is = absurd is
+says_decoded rests (Write Db) files before after mid now db reader database opens keeps is = absurd is
+says_decoded rests (Write Cap) files before after mid now db reader database opens keeps is = absurd is
+says_decoded rests (Write Pdml) files before after mid now db reader database opens keeps is =
+    finds_of (before.files files.db) (before.files files.cap) db (HasProperFront files before after) database
+    (told_map (before.files files.cap) (IsBehindHeader reader now) (HasProperFront files before after db) (λ bytes behind.
     (header_so bytes reader.form behind.header_is,
-    part_of rests decoder.db files.cap (before.files files.cap) before.inputs mid now after.inputs reader opens keeps 4294967295 (omega arith)
+    part_of rests db files.cap (before.files files.cap) before.inputs mid now after.inputs reader opens keeps 4294967295 (omega arith)
     (Wrote before.outputs after.outputs files.pdml) (WrotePart before.outputs after.outputs files.pdml) (WroteFront before.outputs after.outputs files.pdml) bytes behind is)) opens.behind)
-says_decoded rests (Write Out) files before after mid now decoder reader database opens keeps is = absurd is
-says_decoded rests (Database line code) files before after mid now decoder reader database opens keeps is = absurd is
-says_decoded rests (Capture offset code) files before after mid now decoder reader database opens keeps is =
-    finds_of (before.files files.db) (before.files files.cap) decoder.db (IsBroken files before after offset code) database
-    (told_map (before.files files.cap) (IsBehindHeader reader now) (IsBroken files before after offset code decoder.db) (λ bytes behind.
-    let so = broken_of rests decoder.db files.cap (before.files files.cap) before.inputs mid now after.inputs reader opens keeps 4294967295 (omega arith)
+says_decoded rests (Write Out) files before after mid now db reader database opens keeps is = absurd is
+says_decoded rests (Database line code) files before after mid now db reader database opens keeps is = absurd is
+says_decoded rests (Capture offset code) files before after mid now db reader database opens keeps is =
+    finds_of (before.files files.db) (before.files files.cap) db (IsBroken files before after offset code) database
+    (told_map (before.files files.cap) (IsBehindHeader reader now) (IsBroken files before after offset code db) (λ bytes behind.
+    let so = broken_of rests db files.cap (before.files files.cap) before.inputs mid now after.inputs reader opens keeps 4294967295 (omega arith)
     (Wrote before.outputs after.outputs files.pdml) (WrotePart before.outputs after.outputs files.pdml) (WroteFront before.outputs after.outputs files.pdml) offset code bytes behind is in
-    (so.0, with_header bytes reader.form (WroteNothing before after) (Wrote before.outputs after.outputs files.pdml (whole_text Pdml decoder.db (capture.seen bytes 4294967295).packets)) behind.header_is so.1)) opens.behind)
-says_decoded rests NoMemory files before after mid now decoder reader database opens keeps is =
+    (so.0, with_header bytes reader.form (WroteNothing before after) (Wrote before.outputs after.outputs files.pdml (whole_text Pdml db (capture.seen bytes 4294967295).packets)) behind.header_is so.1)) opens.behind)
+says_decoded rests NoMemory files before after mid now db reader database opens keeps is =
     ⊎_elim (λ same. inl same)
-    (λ front. inr (finds_of (before.files files.db) (before.files files.cap) decoder.db (HasFront files before after) database
-    (told_map (before.files files.cap) (IsBehindHeader reader now) (HasFront files before after decoder.db) (λ bytes behind.
+    (λ front. inr (finds_of (before.files files.db) (before.files files.cap) db (HasFront files before after) database
+    (told_map (before.files files.cap) (IsBehindHeader reader now) (HasFront files before after db) (λ bytes behind.
     (header_so bytes reader.form behind.header_is,
-    some_of rests decoder.db files.cap (before.files files.cap) before.inputs mid now after.inputs reader opens keeps 4294967295 (omega arith)
+    some_of rests db files.cap (before.files files.cap) before.inputs mid now after.inputs reader opens keeps 4294967295 (omega arith)
     (Wrote before.outputs after.outputs files.pdml) (WrotePart before.outputs after.outputs files.pdml) (WroteFront before.outputs after.outputs files.pdml) bytes behind front)) opens.behind))) is
-says_decoded rests (Unbuilt part.Words) files before after mid now decoder reader database opens keeps is = absurd is
-says_decoded rests (Unbuilt part.Database) files before after mid now decoder reader database opens keeps is = absurd is
-says_decoded rests (Unbuilt part.Capture) files before after mid now decoder reader database opens keeps is =
-    finds_of (before.files files.db) (before.files files.cap) decoder.db (IsLimited files before after) database
-    (told_map (before.files files.cap) (IsBehindHeader reader now) (IsLimited files before after decoder.db) (λ bytes behind.
-    limited_of rests decoder.db files.cap (before.files files.cap) before.inputs mid now after.inputs reader opens keeps 4294967295 (omega arith)
+says_decoded rests (Unbuilt part.Words) files before after mid now db reader database opens keeps is = absurd is
+says_decoded rests (Unbuilt part.Database) files before after mid now db reader database opens keeps is = absurd is
+says_decoded rests (Unbuilt part.Capture) files before after mid now db reader database opens keeps is =
+    finds_of (before.files files.db) (before.files files.cap) db (IsLimited files before after) database
+    (told_map (before.files files.cap) (IsBehindHeader reader now) (IsLimited files before after db) (λ bytes behind.
+    limited_of rests db files.cap (before.files files.cap) before.inputs mid now after.inputs reader opens keeps 4294967295 (omega arith)
     (Wrote before.outputs after.outputs files.pdml) (WrotePart before.outputs after.outputs files.pdml) (WroteFront before.outputs after.outputs files.pdml) bytes behind is) opens.behind)
 
 -- ---- before the output
@@ -209,33 +208,33 @@ no_header rests bytes most offset code some e =
     ap (λ (s : capture.Seen). s.end) (broken_seen rests bytes [] most offset code some (ap (λ (r : Result Form capture.End). capture.from_header r bytes) e) some)
 
 -- what a status says where the capture wasn't opened, or has no header
-pub says_unopened : Rests → (status : Status) (files : DecodeFiles) (before after : Outside) (mid : Inputs) (faults : CallKind → List ℕ → ℕ) (decoder : Decoder) → IfSome (before.files files.db) (ServedIs (Ok decoder))
+pub says_unopened : Rests → (status : Status) (files : DecodeFiles) (before after : Outside) (mid : Inputs) (faults : CallKind → List ℕ → ℕ) (db : model.Database) → IfSome (before.files files.db) (λ text. IsAccepted text db × (is_served db ≡ true))
     → CaptureOpens (Err status) files.cap (before.files files.cap) mid after.inputs → KeepsIds before.inputs mid → after.outputs ≡ before.outputs → HasCaptureCause files.cap faults after.faults status → DecodeSays status files before after
-says_unopened rests Done files before after mid faults decoder database opens keeps same cause = absurd cause
-says_unopened rests (Open Db) files before after mid faults decoder database opens keeps same cause = absurd cause
-says_unopened rests (Open Cap) files before after mid faults decoder database opens keeps same cause =
-    (same, finds_of (before.files files.db) (before.files files.cap) decoder.db (λ db bytes. Unit {0}) database (any (before.files files.cap)))
-says_unopened rests (Open Pdml) files before after mid faults decoder database opens keeps same cause = absurd cause
-says_unopened rests (Open Out) files before after mid faults decoder database opens keeps same cause = absurd cause
-says_unopened rests (Read Db) files before after mid faults decoder database opens keeps same cause = absurd cause
-says_unopened rests (Read Cap) files before after mid faults decoder database opens keeps same cause =
-    finds_of (before.files files.db) (before.files files.cap) decoder.db (IsCut files before after) database
-    (told_map (before.files files.cap) (λ bytes. (given : List ℕ) × GaveOf files.cap mid after.inputs bytes given × (length given < 24)) (IsCut files before after decoder.db) (λ bytes took.
+says_unopened rests Done files before after mid faults db database opens keeps same cause = absurd cause
+says_unopened rests (Open Db) files before after mid faults db database opens keeps same cause = absurd cause
+says_unopened rests (Open Cap) files before after mid faults db database opens keeps same cause =
+    (same, finds_of (before.files files.db) (before.files files.cap) db (λ db bytes. Unit {0}) database (any (before.files files.cap)))
+says_unopened rests (Open Pdml) files before after mid faults db database opens keeps same cause = absurd cause
+says_unopened rests (Open Out) files before after mid faults db database opens keeps same cause = absurd cause
+says_unopened rests (Read Db) files before after mid faults db database opens keeps same cause = absurd cause
+says_unopened rests (Read Cap) files before after mid faults db database opens keeps same cause =
+    finds_of (before.files files.db) (before.files files.cap) db (IsCut files before after) database
+    (told_map (before.files files.cap) (λ bytes. (given : List ℕ) × GaveOf files.cap mid after.inputs bytes given × (length given < 24)) (IsCut files before after db) (λ bytes took.
     let gave = took.1.0 in
     (took.0,
     record { id = gave.id; rest = gave.rest; fresh = keeps gave.id gave.fresh; named = gave.named; holds = gave.holds; parts = gave.parts },
-    without_header took.0 (capture.Broken 0 1) (WroteNothing before after) (Wrote before.outputs after.outputs files.pdml (open_text Pdml decoder.db (capture.cap took.0).packets)) (short_header took.0 took.1.1) same)) opens)
-says_unopened rests (Read Pdml) files before after mid faults decoder database opens keeps same cause = absurd cause
-says_unopened rests (Read Out) files before after mid faults decoder database opens keeps same cause = absurd cause
-says_unopened rests (Write role) files before after mid faults decoder database opens keeps same cause = absurd cause
-says_unopened rests (Database line code) files before after mid faults decoder database opens keeps same cause = absurd cause
-says_unopened rests (Capture offset code) files before after mid faults decoder database opens keeps same cause =
-    finds_of (before.files files.db) (before.files files.cap) decoder.db (IsBroken files before after offset code) database
-    (told_map (before.files files.cap) (λ bytes. capture.header bytes ≡ Err (capture.Broken offset code)) (IsBroken files before after offset code decoder.db) (λ bytes e.
+    without_header took.0 (capture.Broken 0 1) (WroteNothing before after) (Wrote before.outputs after.outputs files.pdml (open_text Pdml db (capture.cap took.0).packets)) (short_header took.0 took.1.1) same)) opens)
+says_unopened rests (Read Pdml) files before after mid faults db database opens keeps same cause = absurd cause
+says_unopened rests (Read Out) files before after mid faults db database opens keeps same cause = absurd cause
+says_unopened rests (Write role) files before after mid faults db database opens keeps same cause = absurd cause
+says_unopened rests (Database line code) files before after mid faults db database opens keeps same cause = absurd cause
+says_unopened rests (Capture offset code) files before after mid faults db database opens keeps same cause =
+    finds_of (before.files files.db) (before.files files.cap) db (IsBroken files before after offset code) database
+    (told_map (before.files files.cap) (λ bytes. capture.header bytes ≡ Err (capture.Broken offset code)) (IsBroken files before after offset code db) (λ bytes e.
     (no_header rests bytes 4294967295 offset code (omega arith) e,
-    without_header bytes (capture.Broken offset code) (WroteNothing before after) (Wrote before.outputs after.outputs files.pdml (whole_text Pdml decoder.db (capture.seen bytes 4294967295).packets)) e same)) opens)
-says_unopened rests NoMemory files before after mid faults decoder database opens keeps same cause = inl same
-says_unopened rests (Unbuilt which) files before after mid faults decoder database opens keeps same cause = absurd cause
+    without_header bytes (capture.Broken offset code) (WroteNothing before after) (Wrote before.outputs after.outputs files.pdml (whole_text Pdml db (capture.seen bytes 4294967295).packets)) e same)) opens)
+says_unopened rests NoMemory files before after mid faults db database opens keeps same cause = inl same
+says_unopened rests (Unbuilt which) files before after mid faults db database opens keeps same cause = absurd cause
 
 -- what it says where there is no database to decode by
 pub says_unloaded : (status : Status) (files : DecodeFiles) (before after : Outside) → IfSome (before.files files.db) (ServedIs (Err status)) → after.outputs ≡ before.outputs → HasServedCause files.db before.faults after.faults status

@@ -37,7 +37,7 @@ texts_front front role db ps qs (suc k) h =
     ∙ ap (λ (s : Session). texts role db ps k ++ text_from role db (slice_get ps k) s) (front db (declared db) ps qs k (omega arith))
 
 -- the session behind these packets
-pub session_after : Database → List Packet → Session
+unfoldable pub session_after : Database → List Packet → Session
 session_after db ps = state db (declared db) ps (length ps)
 
 -- behind one packet more
@@ -71,6 +71,7 @@ open_text-more front role db ps p =
 
 -- later texts, behind the first k
 texts_later : (role : Role) (db : Database) (ps : List Packet) (k more : ℕ) → (later : List ℕ) × (texts role db ps (k + more) ≡ texts role db ps k ++ later)
+unfolding text_from
 texts_later role db ps k zero = ([], ap (texts role db ps) (let e : k + zero ≡ k = omega arith in e) ∙ sym (append-nil (texts role db ps k)))
 texts_later role db ps k (suc more) =
     let rest = texts_later role db ps k more in

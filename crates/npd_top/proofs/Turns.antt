@@ -1,5 +1,5 @@
 -- How turns, in each of which one packet was read, decoded and written, make up the whole.
-use Rattle.std.proofs.Common.{◌≡◌, ◌⊎◌, inl, inr, ⊎_elim, ◌<◌, ◌≤◌, ◌+◌, ◌^◌, ℕ, suc, true, List, [], ◌∷◌, ◌++◌, length, Option, Some, None, Result, Ok, Err, refl, sym, ap, ◌∙◌, subst, IfSome, min, append_assoc, append-nil, length-append, arith}
+use Rattle.std.proofs.Common.{◌≡◌, ◌⊎◌, inl, inr, ⊎_elim, ◌<◌, ◌≤◌, ◌+◌, ◌-◌, ◌^◌, ℕ, suc, true, IsTrue, IsSome, List, [], ◌∷◌, ◌++◌, length, Option, Some, None, Result, Ok, Err, refl, sym, ap, ◌∙◌, subst, IfSome, min, append_assoc, append-nil, length-append, arith}
 use Rattle.db_model.specs.declared.database.Database as model
 use Rattle.db_model.specs.declared.packet.Packet.{Packet}
 use Rattle.db_model.specs.Session.{Session, declared}
@@ -10,8 +10,8 @@ use Rattle.pcap_in.specs.declared.form.Form.{Form}
 use Rattle.pcap_in.specs.declared.state.State.TheVariants as state
 use Rattle.pcap_in.specs.Capture.{Seen, whole_end, broken_end, with_front, One, record_at, record_size, records_size, records}
 use Rattle.pcap_in.specs.Laws.{RecordIsFront, PartHasNone}
-use Rattle.pcap_in.specs.Reader.{Reader, left, moved_by}
-use Rattle.pcap_in.specs.Reading.{record_length}
+use Rattle.pcap_in.specs.Reader.{Reader, is_usable, is_reading, left, moved_by}
+use Rattle.pcap_in.specs.Reading.{OnlyRead, record_length}
 use Rattle.npd_top.specs.declared.status.Role.TheVariants.{Db, Cap, Pdml, Out}
 use Rattle.npd_top.specs.declared.status.Part.TheVariants as part
 use Rattle.npd_top.specs.declared.status.Status.{Status}
@@ -327,6 +327,7 @@ module _ (db : model.Database) (out most : ℕ) where
 
 -- the opening was written, and nothing else was done
 pub begun : (db : model.Database) (out : ℕ) (a : Standing) (outputs : Outputs) → a.reader.number ≡ 0 → a.reader.kept ≡ [] → a.session ≡ declared db → Took out a.outputs outputs (opening Pdml db) → SoFar db out [] a (record a { outputs = outputs })
+unfolding session_after
 begun db out a outputs number kept session took = record {
   given = [];
   gave = gave_none a.reader.id.0 a.inputs;
@@ -376,3 +377,62 @@ unopened db out most (Database line code) a outputs fails = absurd fails
 unopened db out most (Capture offset code) a outputs fails = absurd fails
 unopened db out most NoMemory a outputs fails = nothing_read db out most NoMemory a outputs tt (rw (open_text-none Pdml db) fails) (λ rest. tt)
 unopened db out most (Unbuilt which) a outputs fails = absurd fails
+
+-- so many packets so far
+pub record Reached (db : model.Database) (out count : ℕ) (a b : Standing) : Type 0 where
+  pub packets : List Packet
+  pub counted : length packets ≡ count
+  pub far : SoFar db out packets a b
+
+-- a packet was read and decoded, and the writing of its text gave up with this status
+pub refused_turn : (db : model.Database) (out : ℕ) (why : Status) (packet : Packet) (a b : Standing) (after : Option Seen) (inputs : Inputs) → FailsText why out a.outputs b.outputs (text_now db out packet a)
+    → OnlyRead a.reader.id.0 a.inputs inputs (λ bytes. record_at a.reader.form a.reader.number (a.reader.kept ++ bytes) ≡ One packet [])
+    → IfSome (left a.reader a.inputs) (λ seen. (rest : Seen) × (after ≡ Some rest) × (seen ≡ with_front (packet ∷ []) rest)) → b.inputs ≡ inputs → b.decoded ≡ a.decoded + 1 → Turns db out (Err why) a b
+refused_turn db out Done packet a b after inputs fails read sees same decoded = absurd fails
+refused_turn db out (Open role) packet a b after inputs fails read sees same decoded = absurd fails
+refused_turn db out (Read role) packet a b after inputs fails read sees same decoded = absurd fails
+refused_turn db out (Write Db) packet a b after inputs fails read sees same decoded = absurd fails
+refused_turn db out (Write Cap) packet a b after inputs fails read sees same decoded = absurd fails
+refused_turn db out (Write Pdml) packet a b after inputs fails read sees same decoded = record {
+  packet = packet;
+  after = after;
+  follows = record { bytes = read.bytes; gave = rw same read.gave; is = read.taken; sees = sees };
+  took = fails;
+  decoded = decoded;
+}
+refused_turn db out (Write Out) packet a b after inputs fails read sees same decoded = absurd fails
+refused_turn db out (Database line code) packet a b after inputs fails read sees same decoded = absurd fails
+refused_turn db out (Capture offset code) packet a b after inputs fails read sees same decoded = absurd fails
+refused_turn db out NoMemory packet a b after inputs fails read sees same decoded = inr (record {
+  packet = packet;
+  after = after;
+  follows = record { bytes = read.bytes; gave = rw same read.gave; is = read.taken; sees = sees };
+  took = fails;
+  decoded = decoded;
+})
+refused_turn db out (Unbuilt which) packet a b after inputs fails read sees same decoded = absurd fails
+
+-- the same, whatever reader stands there at the end
+pub ends_by : (db : model.Database) (out most : ℕ) (result : Result Status Status) (a b : Standing) (reader : Reader) → Ends db out most result a b → Ends db out most result a (record b { reader = reader })
+ends_by db out most result a b reader ends = record {
+  packets = ends.packets;
+  given = ends.given;
+  few = ends.few;
+  sees = ends.sees;
+  gave = ends.gave;
+  cut = ends.cut;
+  took = ends.took;
+  decoded = ends.decoded;
+}
+
+-- a turn that didn't end the capture passed a packet
+pub passes_of : (db : model.Database) (out : ℕ) (ended : Option Status) (b c : Standing) → ((status : Status) → ended ≡ Some status → ⊥) → Turns db out (Ok ended) b c → (packet : Packet) × Passes db out packet b c
+passes_of db out None b c going turns = turns
+passes_of db out (Some status) b c going turns = absurd (going status refl)
+
+-- behind a packet a reader goes on
+pub goes_on : (p : Packet) (old new : Reader) → new ≡ record (moved_by p old) { kept = []; state = state.Reading } → IsTrue (is_reading new.state) × IsTrue (is_usable new.state)
+goes_on p old new e = rw e (refl, refl)
+
+pub named_still : (old new : ℕ → Option (List ℕ)) (id : ℕ) → new ≡ old → IsSome (old id) → IsSome (new id)
+named_still old new id e h = rw e h

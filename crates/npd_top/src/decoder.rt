@@ -1,11 +1,9 @@
-ghost use Rattle.std.specs.Prelude.{◌≡◌, ◌+◌, ◌<◌, [], IfOk};
+ghost use Rattle.std.specs.Prelude.{◌≡◌, ◌+◌, ◌<◌, IfOk};
 ghost use Rattle.db_model.specs.Decoding.{dec};
-ghost use Rattle.db_model.specs.Session.{declared};
 ghost use Rattle.db_model.specs.declared.limits.TheConstants.{STAMP_END};
 ghost use Rattle.npd_top.specs.declared.status.Role.{Role};
+ghost use Rattle.npd_top.specs.Decoder.{IsReady, IsNew};
 ghost use Rattle.npd_top.specs.Outputs.{packet_text};
-ghost use Rattle.pdl_code.specs.Does.{IsCodeOf};
-ghost use Rattle.show.specs.Labels.{labels_of};
 
 use db_model::{Answers, CheckedDb, NoMemory, Packet};
 use decode_vm::{Steps, decode};
@@ -14,94 +12,65 @@ use pdml_out::push_packet_text;
 use session::Session;
 use show::Labels;
 use std::alloc::Global;
-use std::marker::Model;
 use std::sync::ledger::Ledger;
 
-/// Decodes packets one after another, each from the session that the one before it left, and makes their texts in one
-/// buffer. Contracts see its database, that session and the text of the last packet.
+/// What packets are decoded by: a database, its code, and what it calls its fields and blocks.
 #[derive(Drop)]
-pub struct Decoder<A: Answers> {
-    alloc: Global,
-    db: CheckedDb,
-    code: Code,
-    labels: Labels,
-    answers: A,
-    text: Vec<u8>,
+pub struct Engine {
+    pub db: CheckedDb,
+    pub code: Code,
+    pub labels: Labels,
 }
 
-impl<A: Answers> Model for Decoder<A> {
-    ghost use Rattle.std.specs.Prelude.{◌≡◌};
-    ghost use Rattle.db_model.specs.contracts.database.Database as database;
-    ghost use Rattle.db_model.specs.contracts.entry.Entry as entry;
-    ghost use Rattle.npd_top.specs.Decoder.{Decoder, decoder_code};
-    ghost use Rattle.pdl_code.specs.Does.{IsCodeOf};
-    ghost use Rattle.show.specs.Labels.{labels_of};
-
-    ghost Value = { Decoder };
-
-    ghost coded = { decoder_code database.the_row.coded entry.the_row.coded };
-
-    ghost view = { λ d. record {
-      db = d.db;
-      session = A.content d.answers;
-      text = d.text.items;
-    } };
-
-    ghost invariant = { λ d.
-        IsCodeOf d.db d.code × (d.labels ≡ labels_of d.db) × (A.database d.answers ≡ d.db) };
-}
-
-impl Decoder<Session> {
-    /// Begins with the session of the database.
-    pub fn of(alloc: Global, db: CheckedDb) -> Result<Decoder<Session>, NoMemory>
-        ensures { IfOk result (λ d. d ≡ record { db = db; session = declared db; text = [] }) }
+impl Engine {
+    /// The engine of a database.
+    fn of(alloc: Global, db: CheckedDb) -> Result<Engine, NoMemory>
+        ensures db { IfOk result (λ engine. engine.db ≡ db) }
+        ensures ready { IfOk result IsReady }
     {
         let code = compile(alloc, &db)?;
         let labels = Labels::of(alloc, &db)?;
-        let answers = Session::new(alloc, &db)?;
-        Ok(Decoder {
-            alloc,
-            db,
-            code,
-            labels,
-            answers,
-            text: Vec::new(alloc),
-        })
+        Ok(Engine { db, code, labels })
+    }
+
+    /// Decodes a packet and puts its text into the buffer, in place of what it has.
+    pub fn decode<A: Answers, L: Ledger>(
+        &self,
+        alloc: Global,
+        packet: &Packet,
+        answers: &mut A,
+        steps: &mut Steps<L>,
+        text: &mut Vec<u8>,
+    ) -> Result<(), NoMemory>
+        requires ready { IsReady self.now }
+        requires database { A.database answers.old ≡ self.now.db }
+        requires time { packet.now.stamp < STAMP_END }
+        ensures database { A.database answers.new ≡ self.now.db }
+        ensures text { IfOk result (λ _. text.new.items ≡ packet_text Role.Pdml self.now.db packet.now
+            (dec self.now.db packet.now (A.content answers.old)).result) }
+        ensures session { IfOk result (λ _. A.content answers.new
+            ≡ (dec self.now.db packet.now (A.content answers.old)).session) }
+        ensures steps { steps.new ≡ steps.old + 1 }
+    {
+        let tree = decode(alloc, &self.db, &self.code, packet, answers, steps)?;
+        text.clear();
+        push_packet_text(text, &self.db, &self.labels, packet, &tree)
     }
 }
 
-impl<A: Answers> Decoder<A> {
-    /// Decodes a packet and makes its text.
-    pub fn decode<L: Ledger>(
-        &mut self,
-        packet: &Packet,
-        steps: &mut Steps<L>,
-    ) -> Result<(), NoMemory>
-        requires { packet.now.stamp < STAMP_END }
-        ensures db { self.new.db ≡ self.old.db }
-        ensures text { IfOk result (λ _. self.new.text
-            ≡ packet_text Role.Pdml self.old.db packet.now
-            (dec self.old.db packet.now self.old.session).result) }
-        ensures session { IfOk result (λ _. self.new.session
-            ≡ (dec self.old.db packet.now self.old.session).session) }
-        ensures steps { steps.new ≡ steps.old + 1 }
-    {
-        let tree = decode(
-            self.alloc,
-            &self.db,
-            &self.code,
-            packet,
-            &mut self.answers,
-            steps,
-        )?;
-        self.text.clear();
-        push_packet_text(&mut self.text, &self.db, &self.labels, packet, &tree)
-    }
+/// An engine with the session of its database.
+#[derive(Drop)]
+pub struct Decoder {
+    pub engine: Engine,
+    pub session: Session,
+}
 
-    /// The text of the last packet.
-    pub fn text(&self) -> &[u8]
-        ensures { result.now ≡ self.now.text }
-    {
-        self.text.as_slice()
-    }
+/// A decoder that decoded nothing yet.
+pub fn decoder_of(alloc: Global, db: CheckedDb) -> Result<Decoder, NoMemory>
+    ensures db { IfOk result (λ decoder. decoder.engine.db ≡ db) }
+    ensures new { IfOk result IsNew }
+{
+    let engine = Engine::of(alloc, db)?;
+    let session = Session::new(alloc, &engine.db)?;
+    Ok(Decoder { engine, session })
 }

@@ -43,10 +43,12 @@ fn run_decode<H: Host>(alloc: Global, host: &mut H, files: &DecodeFiles) -> Stat
         Err(status) => return status,
     };
     write_pdml::<H, Session, Brand>(
+        alloc,
         host,
         reader,
         files.pdml.as_str(),
-        &mut decoder,
+        &decoder.engine,
+        &mut decoder.session,
         u32::MAX,
         Blank::new(1),
     )

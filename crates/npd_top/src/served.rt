@@ -1,18 +1,17 @@
-ghost use Rattle.std.specs.Prelude.{◌≡◌, ◌<◌, [], IfSome, IfErr, IfOk};
-ghost use Rattle.db_model.specs.Session.{declared};
+ghost use Rattle.std.specs.Prelude.{◌≡◌, ◌<◌, IfSome, IfErr, IfOk};
 ghost use Rattle.db_text.specs.declared.limits.TheConstants.{MOST_TEXT_BYTES};
 ghost use Rattle.npd_host.specs.Host.{MovesInputsOnly};
 ghost use Rattle.npd_top.specs.Accepted;
 ghost use Rattle.npd_top.specs.Causes.{HasServedCause};
-ghost use Rattle.npd_top.specs.Loaded.{ServedIs, Begins};
+ghost use Rattle.npd_top.specs.Decoder.{IsNew};
+ghost use Rattle.npd_top.specs.Loaded.{ServedIs};
 ghost use Rattle.npd_top.specs.Outside.{OpensOne, KeepsIds};
 
-use crate::decoder::Decoder;
+use crate::decoder::{Decoder, decoder_of};
 use crate::load::load;
 use crate::status::{Part, Status};
 use db_model::Database;
 use npd_host::Host;
-use session::Session;
 use std::alloc::Global;
 
 /// Whether all that a database declares is served: it declares no summary.
@@ -29,10 +28,10 @@ pub fn load_decoder<H: Host>(
     host: &mut H,
     name: &str,
     most: usize,
-) -> Result<Decoder<Session>, Status>
+) -> Result<Decoder, Status>
     requires { MOST_TEXT_BYTES < most }
     ensures database { IfSome (H.files host.old name.now) (ServedIs result) }
-    ensures begins { IfOk result Begins }
+    ensures new { IfOk result IsNew }
     ensures opens { OpensOne name.now (H.inputs host.old).opened (H.inputs host.new).opened result }
     ensures keeps { KeepsIds (H.inputs host.old) (H.inputs host.new) }
     ensures frame { MovesInputsOnly H.outputs H.files H.faults host.old host.new }
@@ -44,7 +43,7 @@ pub fn load_decoder<H: Host>(
             part: Part::Database,
         });
     }
-    match Decoder::of(alloc, db) {
+    match decoder_of(alloc, db) {
         Ok(decoder) => Ok(decoder),
         Err(_) => Err(Status::NoMemory),
     }
