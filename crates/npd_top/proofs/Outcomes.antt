@@ -15,8 +15,8 @@ use Rattle.npd_top.specs.declared.status.Part.TheVariants as part
 use Rattle.npd_top.specs.declared.status.Status.{Status}
 use Rattle.npd_top.specs.declared.status.Status.TheVariants.{Done, Open, Read, Write, Database, Capture, NoMemory, Unbuilt}
 use Rattle.npd_top.specs.Outputs.{closing, open_text, whole_text}
-use Rattle.npd_top.specs.Packets.{Standing, Ends, LeftIs, IsWhole, IsBroken, IsLimited, IsCut, OutputIs}
-use Rattle.npd_top.specs.Written.{TookFront, FailsText, Wrote, WrotePart, WroteFront}
+use Rattle.npd_top.specs.Packets.{Standing, Ends, LeftIs, IsWhole, IsBroken, IsLimited, IsCut, OutputIs, PdmlIs}
+use Rattle.npd_top.specs.Written.{TookFront, TookSome, FailsText, Wrote, WrotePart, WroteFront}
 use Rattle.npd_top.proofs.Texts.{whole_text-front, whole_text-is}
 use Rattle.npd_top.proofs.Told.{told_map}
 
@@ -136,7 +136,7 @@ module _ (front : SerialFront) (db : model.Database) (out most : ℕ) where
   none_left (Unbuilt which) count rest a b ends is = absurd ends.took
 
   -- the opening and the packets were taken before the closing
-  open_took : (status : Status) (a b : Standing) (ends : Ends db out most (Ok status) a b) → Took out a.outputs b.outputs (open_text Pdml db ends.packets)
+  pub open_took : (status : Status) (a b : Standing) (ends : Ends db out most (Ok status) a b) → Took out a.outputs b.outputs (open_text Pdml db ends.packets)
   open_took Done a b ends = ends.took
   open_took (Capture offset code) a b ends = ends.took
   open_took (Open role) a b ends = absurd ends.took
@@ -172,6 +172,23 @@ module _ (front : SerialFront) (db : model.Database) (out most : ℕ) where
         took = took_then out a.outputs b.outputs outputs (open_text Pdml db ends.packets) fails.front opened fails.took;
       })) ends.sees
   unclosed_output status (Unbuilt which) a b outputs ends fails = absurd fails
+
+  -- in any case some bytes were taken
+  pub some_closed : (status : Status) (a b : Standing) (outputs : Outputs) (bytes : List ℕ) → Ends db out most (Ok status) a b → Took out b.outputs outputs bytes → TookSome out a.outputs outputs
+  some_closed status a b outputs bytes ends took = record { bytes = open_text Pdml db ends.packets ++ bytes; took = took_then out a.outputs b.outputs outputs (open_text Pdml db ends.packets) bytes (open_took status a b ends) took }
+
+  pub some_unclosed : (status why : Status) (a b : Standing) (outputs : Outputs) (text : List ℕ) → Ends db out most (Ok status) a b → FailsText why out b.outputs outputs text → TookSome out a.outputs outputs
+  some_unclosed status Done a b outputs text ends fails = absurd fails
+  some_unclosed status (Open role) a b outputs text ends fails = absurd fails
+  some_unclosed status (Read role) a b outputs text ends fails = absurd fails
+  some_unclosed status (Write Db) a b outputs text ends fails = absurd fails
+  some_unclosed status (Write Cap) a b outputs text ends fails = absurd fails
+  some_unclosed status (Write Pdml) a b outputs text ends fails = some_closed status a b outputs fails.front ends fails.took
+  some_unclosed status (Write Out) a b outputs text ends fails = absurd fails
+  some_unclosed status (Database line code) a b outputs text ends fails = absurd fails
+  some_unclosed status (Capture offset code) a b outputs text ends fails = absurd fails
+  some_unclosed status NoMemory a b outputs text ends fails = some_closed status a b outputs fails.front ends fails.took
+  some_unclosed status (Unbuilt which) a b outputs text ends fails = absurd fails
 
 -- ---- the output of a name
 
@@ -221,3 +238,18 @@ named_output db most r s t id name status reader before after opens is =
     (λ text took. record { front = took.front; back = took.back; proper = took.proper; parts = took.parts; wrote = wrote_of r s t id name took.front opens took.took })
     (λ text took. record { front = took.front; back = took.back; parts = took.parts; wrote = wrote_of r s t id name took.front opens took.took })
     status reader before after is
+
+-- what is said of the output of a name, whatever the status
+pub pdml_is : (db : model.Database) (most : ℕ) (r t : Outputs) (name : List ℕ) (status : Status) (reader : Reader) (before after : Inputs) → OutputIs db most (Wrote r t name) (WrotePart r t name) (WroteFront r t name) status reader before after
+    → PdmlIs db most name status reader before after r t
+pdml_is db most r t name Done reader before after is = is
+pdml_is db most r t name (Open Db) reader before after is = absurd is
+pdml_is db most r t name (Open Cap) reader before after is = absurd is
+pdml_is db most r t name (Open Pdml) reader before after is = absurd is
+pdml_is db most r t name (Open Out) reader before after is = absurd is
+pdml_is db most r t name (Read role) reader before after is = is
+pdml_is db most r t name (Write role) reader before after is = is
+pdml_is db most r t name (Database line code) reader before after is = is
+pdml_is db most r t name (Capture offset code) reader before after is = is
+pdml_is db most r t name NoMemory reader before after is = inr is
+pdml_is db most r t name (Unbuilt which) reader before after is = is

@@ -2,7 +2,7 @@ ghost use Rattle.std.specs.Prelude.{◌≡◌, ◌+◌, ◌<◌, IfOk};
 ghost use Rattle.db_model.specs.Decoding.{dec};
 ghost use Rattle.db_model.specs.declared.limits.TheConstants.{STAMP_END};
 ghost use Rattle.npd_top.specs.declared.status.Role.{Role};
-ghost use Rattle.npd_top.specs.Decoder.{IsReady, IsNew};
+ghost use Rattle.npd_top.specs.Decoder.{IsReady, HasParts, IsNew};
 ghost use Rattle.npd_top.specs.Outputs.{packet_text};
 
 use db_model::{Answers, CheckedDb, NoMemory, Packet};
@@ -23,16 +23,6 @@ pub struct Engine {
 }
 
 impl Engine {
-    /// The engine of a database.
-    fn of(alloc: Global, db: CheckedDb) -> Result<Engine, NoMemory>
-        ensures db { IfOk result (λ engine. engine.db ≡ db) }
-        ensures ready { IfOk result IsReady }
-    {
-        let code = compile(alloc, &db)?;
-        let labels = Labels::of(alloc, &db)?;
-        Ok(Engine { db, code, labels })
-    }
-
     /// Decodes a packet and puts its text into the buffer, in place of what it has.
     pub fn decode<A: Answers, L: Ledger>(
         &self,
@@ -58,6 +48,28 @@ impl Engine {
     }
 }
 
+/// What is made of a database to decode by it.
+#[derive(Drop)]
+pub struct Parts {
+    pub code: Code,
+    pub labels: Labels,
+    pub session: Session,
+}
+
+/// The code, the labels and the session of a database.
+pub fn parts_of(alloc: Global, db: &CheckedDb) -> Result<Parts, NoMemory>
+    ensures { IfOk result (λ parts. HasParts parts db.now) }
+{
+    let code = compile(alloc, db)?;
+    let labels = Labels::of(alloc, db)?;
+    let session = Session::new(alloc, db)?;
+    Ok(Parts {
+        code,
+        labels,
+        session,
+    })
+}
+
 /// An engine with the session of its database.
 #[derive(Drop)]
 pub struct Decoder {
@@ -66,11 +78,18 @@ pub struct Decoder {
 }
 
 /// A decoder that decoded nothing yet.
-pub fn decoder_of(alloc: Global, db: CheckedDb) -> Result<Decoder, NoMemory>
-    ensures db { IfOk result (λ decoder. decoder.engine.db ≡ db) }
-    ensures new { IfOk result IsNew }
+pub fn decoder_of(db: CheckedDb, parts: Parts) -> Decoder
+    requires { HasParts parts db }
+    ensures db { result.engine.db ≡ db }
+    ensures new { IsNew result }
 {
-    let engine = Engine::of(alloc, db)?;
-    let session = Session::new(alloc, &engine.db)?;
-    Ok(Decoder { engine, session })
+    let Parts {
+        code,
+        labels,
+        session,
+    } = parts;
+    Decoder {
+        engine: Engine { db, code, labels },
+        session,
+    }
 }

@@ -7,7 +7,7 @@ ghost use Rattle.npd_top.specs.Decoder.{IsNew};
 ghost use Rattle.npd_top.specs.Loaded.{ServedIs};
 ghost use Rattle.npd_top.specs.Outside.{OpensOne, KeepsIds};
 
-use crate::decoder::{Decoder, decoder_of};
+use crate::decoder::{Decoder, decoder_of, parts_of};
 use crate::load::load;
 use crate::status::{Part, Status};
 use db_model::Database;
@@ -43,8 +43,8 @@ pub fn load_decoder<H: Host>(
             part: Part::Database,
         });
     }
-    match decoder_of(alloc, db) {
-        Ok(decoder) => Ok(decoder),
+    match parts_of(alloc, &db) {
+        Ok(parts) => Ok(decoder_of(db, parts)),
         Err(_) => Err(Status::NoMemory),
     }
 }
