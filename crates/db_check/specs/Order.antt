@@ -1,5 +1,5 @@
 -- A topological order of a graph: turns of its numbers, the greater the earlier, and 0 for a number that has none.
-use Rattle.std.specs.Prelude.{ℕ, zero, suc, ◌<◌, max, nat_lt, Bool, true, ◌&&◌, List, [], ◌∷◌, slice_get, unwrap_or}
+use Rattle.std.specs.Prelude.{ℕ, suc, ◌<◌, max, nat_lt, Bool, true, ◌&&◌, List, [], ◌∷◌, slice_get, unwrap_or}
 use Rattle.db_check.specs.declared.order.Ordered.{Ordered}
 use Rattle.db_check.specs.Graph.{Graph, edges, IsOneOf}
 

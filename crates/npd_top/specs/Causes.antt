@@ -1,5 +1,5 @@
 -- Which status a part of a run gives up with, and which count of faults rose for it.
-use Rattle.std.specs.Prelude.{ℕ, List, Option}
+use Rattle.std.specs.Prelude.{ℕ, List, Option, Some}
 use Rattle.db_model.specs.declared.fault.DbFail.{DbFail}
 use Rattle.db_model.specs.declared.fault.DbFail.TheVariants as database
 use Rattle.npd_host.specs.declared.host.CallKind.{CallKind}
@@ -12,7 +12,7 @@ use Rattle.pcap_in.specs.declared.fail.CapFail.TheVariants as fail
 use Rattle.npd_top.specs.declared.status.Role.TheVariants.{Db, Cap, Pdml, Out}
 use Rattle.npd_top.specs.declared.status.Part.TheVariants as part
 use Rattle.npd_top.specs.declared.status.Status.{Status}
-use Rattle.npd_top.specs.declared.status.Status.TheVariants.{Open, Read, Write, Database, NoMemory, Unbuilt}
+use Rattle.npd_top.specs.declared.status.Status.TheVariants.{Done, Open, Read, Write, Database, Capture, NoMemory, Unbuilt}
 
 -- the status where a host refused a call: this one, or want of memory
 abbrev pub refusal : Status → HostFail → Status
@@ -21,7 +21,7 @@ refusal failed host.NoMemory = NoMemory
 
 -- the status for each failure of a reader of captures
 abbrev pub capture_status : CapFail → Status
-capture_status (fail.Broken offset code) = Unbuilt part.Capture
+capture_status (fail.Broken offset code) = Capture offset code
 capture_status fail.ReadFault = Read Cap
 capture_status fail.NoMemory = NoMemory
 
@@ -40,11 +40,6 @@ HasTextCause name before now (Read Db) = RoseOn call.Read name before now
 HasTextCause name before now NoMemory = Unit {0}
 HasTextCause name before now other = ⊥
 
--- a database is opened, read and checked
-abbrev pub HasDatabaseCause : List ℕ → (CallKind → List ℕ → ℕ) → (CallKind → List ℕ → ℕ) → Status → Type 0
-HasDatabaseCause name before now (Unbuilt part.Database) = Unit {0}
-HasDatabaseCause name before now status = HasTextCause name before now status
-
 -- the status for each failure of loading and checking
 abbrev pub fault_status : DbFail → Status
 fault_status (database.Fault line code) = Database line code
@@ -57,23 +52,32 @@ IsFault NoMemory = Unit {0}
 IsFault other = ⊥
 
 -- a database is opened, read, loaded and checked
-abbrev pub HasCheckCause : List ℕ → (CallKind → List ℕ → ℕ) → (CallKind → List ℕ → ℕ) → Status → Type 0
-HasCheckCause name before now (Database line code) = Unit {0}
-HasCheckCause name before now status = HasTextCause name before now status
+abbrev pub HasDatabaseCause : List ℕ → (CallKind → List ℕ → ℕ) → (CallKind → List ℕ → ℕ) → Status → Type 0
+HasDatabaseCause name before now (Database line code) = Unit {0}
+HasDatabaseCause name before now status = HasTextCause name before now status
 
--- an open capture is read to its end
+-- and made ready to decode by
+abbrev pub HasServedCause : List ℕ → (CallKind → List ℕ → ℕ) → (CallKind → List ℕ → ℕ) → Status → Type 0
+HasServedCause name before now (Unbuilt part.Database) = Unit {0}
+HasServedCause name before now status = HasDatabaseCause name before now status
+
+-- the next packet of an open capture is read
 abbrev pub HasReadCause : Option (List ℕ) → (CallKind → List ℕ → ℕ) → (CallKind → List ℕ → ℕ) → Status → Type 0
 HasReadCause name before now (Read Cap) = RoseOnId call.Read name before now
 HasReadCause name before now NoMemory = Unit {0}
-HasReadCause name before now (Unbuilt part.Capture) = Unit {0}
 HasReadCause name before now other = ⊥
 
--- a capture is opened and read to its end
+-- it is told whether something follows in it
+abbrev pub HasLimitCause : Option (List ℕ) → (CallKind → List ℕ → ℕ) → (CallKind → List ℕ → ℕ) → Status → Type 0
+HasLimitCause name before now (Unbuilt part.Capture) = Unit {0}
+HasLimitCause name before now status = HasReadCause name before now status
+
+-- a capture is opened, and its file header is read
 abbrev pub HasCaptureCause : List ℕ → (CallKind → List ℕ → ℕ) → (CallKind → List ℕ → ℕ) → Status → Type 0
 HasCaptureCause name before now (Open Cap) = RoseOn call.OpenIn name before now
 HasCaptureCause name before now (Read Cap) = RoseOn call.Read name before now
+HasCaptureCause name before now (Capture offset code) = Unit {0}
 HasCaptureCause name before now NoMemory = Unit {0}
-HasCaptureCause name before now (Unbuilt part.Capture) = Unit {0}
 HasCaptureCause name before now other = ⊥
 
 -- pieces are written to an open output
@@ -82,12 +86,20 @@ HasWriteCause name before now (Write Pdml) = RoseOnId call.Write name before now
 HasWriteCause name before now NoMemory = Unit {0}
 HasWriteCause name before now other = ⊥
 
--- an output is opened and written
-abbrev pub HasOutputCause : List ℕ → (CallKind → List ℕ → ℕ) → (CallKind → List ℕ → ℕ) → Status → Type 0
-HasOutputCause name before now (Open Pdml) = RoseOn call.OpenOut name before now
-HasOutputCause name before now (Write Pdml) = RoseOn call.Write name before now
-HasOutputCause name before now NoMemory = Unit {0}
-HasOutputCause name before now other = ⊥
+-- the packets of an open capture are read and written to an open output
+abbrev pub HasPacketsCause : Option (List ℕ) → Option (List ℕ) → (CallKind → List ℕ → ℕ) → (CallKind → List ℕ → ℕ) → Status → Type 0
+HasPacketsCause cap pdml before now (Read Cap) = RoseOnId call.Read cap before now
+HasPacketsCause cap pdml before now (Write Pdml) = RoseOnId call.Write pdml before now
+HasPacketsCause cap pdml before now NoMemory = Unit {0}
+HasPacketsCause cap pdml before now Done = Unit {0}
+HasPacketsCause cap pdml before now (Capture offset code) = Unit {0}
+HasPacketsCause cap pdml before now (Unbuilt part.Capture) = Unit {0}
+HasPacketsCause cap pdml before now other = ⊥
+
+-- the output is opened first
+abbrev pub HasOutputCause : Option (List ℕ) → List ℕ → (CallKind → List ℕ → ℕ) → (CallKind → List ℕ → ℕ) → Status → Type 0
+HasOutputCause cap pdml before now (Open Pdml) = RoseOn call.OpenOut pdml before now
+HasOutputCause cap pdml before now status = HasPacketsCause cap (Some pdml) before now status
 
 -- the output of a command's line is opened and written
 abbrev pub HasLineCause : List ℕ → (CallKind → List ℕ → ℕ) → (CallKind → List ℕ → ℕ) → Status → Type 0

@@ -1,32 +1,14 @@
 -- What a check comes to: which status comes where, which files are opened, and what the output has taken then.
-use Rattle.std.specs.Prelude.{◌≡◌, ◌⊎◌, ℕ, List, [], ◌∷◌, ◌++◌, length, codes, decimal, Some, None, Result, Ok, Err, IfSome}
+use Rattle.std.specs.Prelude.{◌≡◌, ◌⊎◌, ℕ, List, [], ◌∷◌, ◌++◌, length, codes, decimal, IfSome}
 use Rattle.db_model.specs.declared.database.Database as model
-use Rattle.db_model.specs.declared.fault.DbFail.TheVariants as fail
-use Rattle.db_model.specs.Objection.{objection}
-use Rattle.db_load.specs.Answer.{Answers}
 use Rattle.npd_top.specs.declared.plan.CheckFiles.{CheckFiles}
 use Rattle.npd_top.specs.declared.status.Role.TheVariants.{Db, Cap, Pdml, Out}
 use Rattle.npd_top.specs.declared.status.Status.{Status}
-use Rattle.npd_top.specs.declared.status.Status.TheVariants.{Done, Open, Read, Write, Database, NoMemory, Unbuilt}
+use Rattle.npd_top.specs.declared.status.Status.TheVariants.{Done, Open, Read, Write, Database, Capture, NoMemory, Unbuilt}
 use Rattle.npd_top.specs.declared.totals.Totals.{Totals}
+use Rattle.npd_top.specs.Accepted.{IsRefused, HasAccepted}
 use Rattle.npd_top.specs.Outside.{Outside, Opened, WroteNothing}
 use Rattle.npd_top.specs.Written.{Wrote, WroteFront, WrotePart}
-
--- the text is that of this database, in which no fault stands
-pub record IsAccepted (text : List ℕ) (db : model.Database) : Type 0 where
-  pub loaded : Answers text (Ok db)
-  pub accepted : objection db ≡ None
-
--- the text is that of a database in which this fault is the first
-pub record HasObjection (text : List ℕ) (line code : ℕ) : Type 0 where
-  pub db : model.Database
-  pub loaded : Answers text (Ok db)
-  pub objected : objection db ≡ Some (record { line = line; code = code })
-
--- the text is refused with this line and this code: by its own grammar and the shape of its elements, or else by what
--- these say of one another
-abbrev pub IsRefused : List ℕ → ℕ → ℕ → Type 0
-IsRefused text line code = Answers text (Err (fail.Fault line code)) ⊎ HasObjection text line code
 
 -- how much a database declares
 abbrev pub totals_of : model.Database → Totals
@@ -37,17 +19,6 @@ unfoldable pub totals_line : Totals → List ℕ
 totals_line t =
     codes "protocols " ++ (decimal t.protocols ++ (codes " tables " ++ (decimal t.tables
     ++ (codes " variables " ++ (decimal t.variables ++ codes "\n")))))
-
--- a database that is accepted
-pub record HasAccepted (text : List ℕ) : Type 0 where
-  pub db : model.Database
-  pub is : IsAccepted text db
-
--- what a database file is, by how the loading and the checking of it ended
-abbrev pub CheckedIs : Result Totals Status → List ℕ → Type 0
-CheckedIs (Ok told) text = (found : HasAccepted text) × (told ≡ totals_of found.db)
-CheckedIs (Err (Database line code)) text = IsRefused text line code
-CheckedIs (Err other) text = Unit {0}
 
 -- the database file, where it is told, is accepted, and this holds of its line
 abbrev pub FindsAccepted : CheckFiles → Outside → (List ℕ → Type 0) → Type 0
@@ -76,6 +47,7 @@ CheckSays (Database line code) files before after =
     WroteNothing before after × IfSome (before.files files.db) (λ text. IsRefused text line code)
 CheckSays NoMemory files before after =
     WroteNothing before after ⊎ FindsAccepted files before (WroteFront before.outputs after.outputs standard)
+CheckSays (Capture offset code) files before after = ⊥
 CheckSays (Unbuilt which) files before after = ⊥
 
 -- which files were opened, whatever the host tells: the output only behind an accepted database

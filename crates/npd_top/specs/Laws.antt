@@ -2,14 +2,15 @@
 use Rattle.std.specs.Prelude.{◌≡◌, ◌⊎◌, ℕ, List, Some}
 use Rattle.npd_host.specs.declared.host.CallKind.{CallKind}
 use Rattle.npd_host.specs.Host.{Rose}
+use Rattle.pcap_in.specs.Capture.{Whole}
 use Rattle.npd_top.specs.declared.plan.CheckFiles.{CheckFiles}
 use Rattle.npd_top.specs.declared.plan.DecodeFiles.{DecodeFiles}
 use Rattle.npd_top.specs.declared.plan.Plan.{Plan}
 use Rattle.npd_top.specs.declared.plan.Plan.TheVariants.{Decode, Check}
 use Rattle.npd_top.specs.declared.status.Status.{Status}
 use Rattle.npd_top.specs.declared.status.Status.TheVariants.{Done, NoMemory}
-use Rattle.npd_top.specs.CheckRun.{HasAccepted}
-use Rattle.npd_top.specs.DecodeRun.{HasBoth}
+use Rattle.npd_top.specs.Accepted.{HasAccepted, HasServed}
+use Rattle.npd_top.specs.DecodeRun.{end_of}
 use Rattle.npd_top.specs.Outside.{Outside}
 use Rattle.npd_top.specs.Run.{Means}
 use Rattle.npd_top.specs.Words.{Asks}
@@ -18,13 +19,14 @@ use Rattle.npd_top.specs.Words.{Asks}
 abbrev pub NoneRose : Outside → Outside → Type 0
 NoneRose before after = (kind : CallKind) (name : List ℕ) → Rose (before.faults kind name) (after.faults kind name) → ⊥
 
--- the files are told, and are a simple database and a capture that is served
+-- the files are told, and are a database that is served and a capture that ends whole
 pub record CanDecode (files : DecodeFiles) (before : Outside) : Type 0 where
   pub text : List ℕ
   pub bytes : List ℕ
   pub db_is : before.files files.db ≡ Some text
   pub cap_is : before.files files.cap ≡ Some bytes
-  pub both : HasBoth text bytes
+  pub served : HasServed text
+  pub whole : end_of bytes ≡ Whole
 
 -- the file is told, and is a database that is accepted
 pub record CanCheck (files : CheckFiles) (before : Outside) : Type 0 where

@@ -1,5 +1,5 @@
 -- What a run sees of a host, and which files it opens.
-use Rattle.std.specs.Prelude.{◌≡◌, ◌<◌, ◌⊎◌, ℕ, List, [], ◌∷◌, ◌++◌, length, Option, Result, Ok, Err}
+use Rattle.std.specs.Prelude.{◌≡◌, ◌<◌, ◌⊎◌, ℕ, List, [], ◌∷◌, ◌++◌, length, Option, None, Result, Ok, Err}
 use Rattle.npd_host.specs.declared.host.CallKind.{CallKind}
 use Rattle.npd_host.specs.declared.host.Host.{Ghosts}
 use Rattle.npd_host.specs.Host.{Inputs, Outputs}
@@ -21,6 +21,10 @@ seen H host = record { inputs = H.inputs host; outputs = H.outputs host; files =
 abbrev pub WroteNothing : Outside → Outside → Type 0
 WroteNothing before after = after.outputs ≡ before.outputs
 
+-- an id that isn't given now wasn't before
+abbrev pub KeepsIds : Inputs → Inputs → Type 0
+KeepsIds old new = (id : ℕ) → new.name id ≡ None → old.name id ≡ None
+
 -- at most so many bytes of an input: all of it, where there are fewer
 pub record FrontOf (most : ℕ) (front whole : List ℕ) : Type 0 where
   pub rest : List ℕ
@@ -38,3 +42,7 @@ OpensOne name before now (Ok done) = now ≡ before ++ name ∷ []
 OpensOne name before now (Err (Open role)) = now ≡ before
 OpensOne name before now (Err NoMemory) = (now ≡ before) ⊎ (now ≡ before ++ name ∷ [])
 OpensOne name before now (Err other) = now ≡ before ++ name ∷ []
+
+-- a status as what a call ended with
+abbrev pub ended : Status → Result (Unit {0}) Status
+ended status = Err status

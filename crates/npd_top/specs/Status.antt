@@ -5,7 +5,7 @@ use Rattle.npd_top.specs.declared.status.Role.TheVariants.{Db, Cap, Pdml, Out}
 use Rattle.npd_top.specs.declared.status.Part.{Part}
 use Rattle.npd_top.specs.declared.status.Part.TheVariants as part
 use Rattle.npd_top.specs.declared.status.Status.{Status}
-use Rattle.npd_top.specs.declared.status.Status.TheVariants.{Done, Open, Read, Write, Database, NoMemory, Unbuilt}
+use Rattle.npd_top.specs.declared.status.Status.TheVariants.{Done, Open, Read, Write, Database, Capture, NoMemory, Unbuilt}
 
 -- the process's exit number
 abbrev pub exit_of : Status → ℕ
@@ -14,6 +14,7 @@ exit_of (Open role) = 3
 exit_of (Read role) = 4
 exit_of (Write role) = 5
 exit_of (Database line code) = 6
+exit_of (Capture offset code) = 7
 exit_of NoMemory = 12
 exit_of (Unbuilt which) = 20
 
@@ -35,6 +36,7 @@ saying_of (Open role) = codes "open " ++ role_word role
 saying_of (Read role) = codes "read " ++ role_word role
 saying_of (Write role) = codes "write " ++ role_word role
 saying_of (Database line code) = codes "database " ++ (decimal line ++ (codes " " ++ decimal code))
+saying_of (Capture offset code) = codes "capture " ++ (decimal offset ++ (codes " " ++ decimal code))
 saying_of NoMemory = codes "no memory"
 saying_of (Unbuilt which) = codes "unbuilt " ++ part_word which
 

@@ -1,6 +1,6 @@
 -- What a run has written to one named output, and that every other output is left.
 use Rattle.std.specs.Prelude.{◌≡◌, ◌<◌, ◌⊎◌, ℕ, List, ◌++◌, length, Some, None, Result, Ok, Err, IfSome}
-use Rattle.npd_host.specs.Host.{Outputs, Took, TookPart}
+use Rattle.npd_host.specs.Host.{Inputs, Outputs, Gave, Took, TookPart}
 use Rattle.npd_top.specs.declared.status.Role.TheVariants.{Pdml, Out}
 use Rattle.npd_top.specs.declared.status.Status.{Status}
 use Rattle.npd_top.specs.declared.status.Status.TheVariants.{Open, Write, NoMemory}
@@ -47,15 +47,17 @@ abbrev pub TakesText : {A : Type 0} → Result A Status → ℕ → Outputs → 
 TakesText (Ok done) id old new text = Took id old new text
 TakesText (Err status) id old new text = FailsText status id old new text
 
--- what a named output took of this text, by how the opening and writing of it ended
-abbrev pub WritesText : {A : Type 0} → Result A Status → Outputs → Outputs → List ℕ → List ℕ → Type 0
-WritesText (Ok done) old new name text = Wrote old new name text
-WritesText (Err (Open Pdml)) old new name text = new ≡ old
-WritesText (Err (Write Pdml)) old new name text = WrotePart old new name text
-WritesText (Err NoMemory) old new name text = (new ≡ old) ⊎ WroteFront old new name text
-WritesText (Err other) old new name text = ⊥
+-- an open output took some bytes, and nothing else changed
+pub record TookSome (id : ℕ) (old new : Outputs) : Type 0 where
+  pub bytes : List ℕ
+  pub took : Took id old new bytes
 
--- the same for the line of a command
+-- an open input gave some bytes, and nothing else changed
+pub record GaveSome (id : ℕ) (old new : Inputs) : Type 0 where
+  pub bytes : List ℕ
+  pub gave : Gave id old new bytes
+
+-- what a named output took of the line of a command, by how the opening and writing of it ended
 abbrev pub WritesLine : {A : Type 0} → Result A Status → Outputs → Outputs → List ℕ → List ℕ → Type 0
 WritesLine (Ok done) old new name text = Wrote old new name text
 WritesLine (Err (Open Out)) old new name text = new ≡ old

@@ -3,24 +3,19 @@
 #![tactic(auto)]
 
 mod capture;
-mod checked;
-mod decode;
+mod decoder;
 mod laws;
 mod limits;
 mod load;
-mod markup;
 mod output;
-mod pdml;
+mod packets;
 mod plan;
-mod reader;
 mod run;
-mod simple;
+mod served;
 mod status;
 mod totals;
 
 pub use laws::a_run_ends_well;
 pub use plan::{CheckFiles, DecodeFiles, Plan};
-pub use reader::{ReadFail, read_database, spells_one_database};
 pub use run::run_serial;
-pub use simple::{SimpleDb, SimpleField, SimpleProtocol};
 pub use status::{Part, Role, Status};

@@ -1,19 +1,19 @@
-ghost use Rattle.std.specs.Prelude.{◌<◌, ◌≤◌, length, IfSome, IfErr, IfOk};
+ghost use Rattle.std.specs.Prelude.{◌≡◌, ◌<◌, IfSome, IfErr, IfOk};
+ghost use Rattle.db_text.specs.declared.limits.TheConstants.{MOST_TEXT_BYTES};
 ghost use Rattle.npd_host.specs.Host.{MovesInputsOnly};
-ghost use Rattle.db_model.specs.declared.limits.TheConstants.{MOST_PROTOCOLS};
-ghost use Rattle.npd_top.specs.declared.limits.TheConstants.{MOST_DATABASE};
-ghost use Rattle.npd_top.specs.Causes.{HasTextCause, HasDatabaseCause};
-ghost use Rattle.npd_top.specs.DecodeRun.{DatabaseIs};
-ghost use Rattle.npd_top.specs.Outside.{OpensOne, FrontOf};
+ghost use Rattle.npd_top.specs.Causes.{fault_status, IsFault, HasTextCause, HasDatabaseCause};
+ghost use Rattle.npd_top.specs.Loaded.{DatabaseIs};
+ghost use Rattle.npd_top.specs.Outside.{OpensOne, KeepsIds, FrontOf};
 
-use crate::reader::{ReadFail, read_database};
-use crate::simple::SimpleDb;
-use crate::status::{Part, Role, Status, refused};
+use crate::status::{Role, Status, refused};
+use db_check::check;
+use db_load::load_database;
+use db_model::{CheckedDb, DbFail};
 use npd_host::{Host, fill};
 use std::alloc::Global;
 
 /// Opens the database file and reads at most `most` bytes of it.
-pub fn read_text<H: Host>(
+fn read_text<H: Host>(
     alloc: Global,
     host: &mut H,
     name: &str,
@@ -22,6 +22,7 @@ pub fn read_text<H: Host>(
     ensures front { IfOk result (λ text.
         IfSome (H.files host.old name.now) (FrontOf most text.items)) }
     ensures opens { OpensOne name.now (H.inputs host.old).opened (H.inputs host.new).opened result }
+    ensures keeps { KeepsIds (H.inputs host.old) (H.inputs host.new) }
     ensures frame { MovesInputsOnly H.outputs H.files H.faults host.old host.new }
     ensures cause { IfErr result (HasTextCause name.now (H.faults host.old) (H.faults host.new)) }
 {
@@ -42,28 +43,45 @@ pub fn read_text<H: Host>(
     }
 }
 
-/// Opens the database file, reads it and checks that it is a simple database. `most` is how many bytes are
-/// read at most: more than such a text has.
+/// The status of a text that is no database that is accepted.
+fn status_of(fail: DbFail) -> Status
+    ensures { result ≡ fault_status fail }
+{
+    match fail {
+        DbFail::Fault { line, code } => Status::Database { line, code },
+        DbFail::NoMemory => Status::NoMemory,
+    }
+}
+
+/// Loads the text of a database and checks it.
+fn accepted(alloc: Global, text: &[u8]) -> Result<CheckedDb, Status>
+    ensures database { DatabaseIs result text.now }
+    ensures fault { IfErr result IsFault }
+{
+    match load_database(alloc, text) {
+        Ok(db) => match check(alloc, db) {
+            Ok(db) => Ok(db),
+            Err(fail) => Err(status_of(fail)),
+        },
+        Err(fail) => Err(status_of(fail)),
+    }
+}
+
+/// Opens the database file, reads it, loads it and checks it. `most` is how many bytes are read at most: more than
+/// the text of a database has.
 pub fn load<H: Host>(
     alloc: Global,
     host: &mut H,
     name: &str,
     most: usize,
-) -> Result<SimpleDb, Status>
-    requires { MOST_DATABASE < most }
+) -> Result<CheckedDb, Status>
+    requires { MOST_TEXT_BYTES < most }
     ensures database { IfSome (H.files host.old name.now) (DatabaseIs result) }
-    ensures few { IfOk result (λ db. length db ≤ MOST_PROTOCOLS) }
     ensures opens { OpensOne name.now (H.inputs host.old).opened (H.inputs host.new).opened result }
+    ensures keeps { KeepsIds (H.inputs host.old) (H.inputs host.new) }
     ensures frame { MovesInputsOnly H.outputs H.files H.faults host.old host.new }
-    ensures cause { IfErr result (HasDatabaseCause name.now
-        (H.faults host.old) (H.faults host.new)) }
+    ensures cause { IfErr result (HasDatabaseCause name.now (H.faults host.old) (H.faults host.new)) }
 {
     let text = read_text(alloc, host, name, most)?;
-    match read_database(alloc, text.as_slice()) {
-        Ok(db) => Ok(db),
-        Err(ReadFail::NotSimple) => Err(Status::Unbuilt {
-            part: Part::Database,
-        }),
-        Err(ReadFail::NoMemory) => Err(Status::NoMemory),
-    }
+    accepted(alloc, text.as_slice())
 }

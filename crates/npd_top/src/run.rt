@@ -5,19 +5,24 @@ ghost use Rattle.npd_top.specs.DecodeRun.{DecodeSays, DecodeOpens};
 ghost use Rattle.npd_top.specs.Outside.{seen};
 ghost use Rattle.npd_top.specs.Run.{HasCause, Means};
 
-use crate::capture::read_capture;
-use crate::checked::load_checked;
+use crate::capture::open_capture;
 use crate::limits::MOST_DATABASE;
 use crate::load::load;
-use crate::output::{write_line, write_pdml};
+use crate::output::write_line;
+use crate::packets::write_pdml;
 use crate::plan::{CheckFiles, DecodeFiles, Plan, read_plan};
+use crate::served::load_decoder;
 use crate::status::{Part, Status};
-use crate::totals::totals_line;
+use crate::totals::{totals_line, totals_of};
 use db_model::NoMemory;
 use npd_host::Host;
+use pcap_in::laws::{fronts_tell, seen_is_read};
+use session::Session;
 use std::alloc::Global;
+use std::marker::Brand;
+use std::sync::ledger::Blank;
 
-/// Loads the database, reads the capture, and writes the PDML.
+/// Loads the database, opens the capture, and writes the PDML, one packet at a time.
 fn run_decode<H: Host>(alloc: Global, host: &mut H, files: &DecodeFiles) -> Status
     ensures opens { DecodeOpens result files.now (seen H.Host host.old) (seen H.Host host.new) }
     ensures says { DecodeSays result files.now (seen H.Host host.old) (seen H.Host host.new) }
@@ -26,25 +31,27 @@ fn run_decode<H: Host>(alloc: Global, host: &mut H, files: &DecodeFiles) -> Stat
     ensures files { H.files host.new ≡ H.files host.old }
     ensures later { NoneFalls (H.faults host.old) (H.faults host.new) }
 {
+    seen_is_read();
+    fronts_tell();
     // One byte more than a database has, so that a longer text is seen.
-    let db = match load(alloc, host, files.db.as_str(), MOST_DATABASE + 1) {
-        Ok(db) => db,
+    let mut decoder = match load_decoder(alloc, host, files.db.as_str(), MOST_DATABASE + 1) {
+        Ok(decoder) => decoder,
         Err(status) => return status,
     };
-    let packets = match read_capture(alloc, host, files.cap.as_str(), u32::MAX) {
-        Ok(packets) => packets,
+    let reader = match open_capture(alloc, host, files.cap.as_str()) {
+        Ok(reader) => reader,
         Err(status) => return status,
     };
-    match write_pdml(
+    write_pdml::<H, Session, Brand>(
         alloc,
         host,
+        reader,
         files.pdml.as_str(),
-        db.as_slice(),
-        packets.as_slice(),
-    ) {
-        Ok(()) => Status::Done,
-        Err(status) => status,
-    }
+        &decoder.engine,
+        &mut decoder.session,
+        u32::MAX,
+        Blank::new(1),
+    )
 }
 
 /// Loads and checks the database, and writes how much it declares.
@@ -57,11 +64,11 @@ fn run_check<H: Host>(alloc: Global, host: &mut H, files: &CheckFiles) -> Status
     ensures later { NoneFalls (H.faults host.old) (H.faults host.new) }
 {
     // One byte more than a database has, so that a longer text is seen.
-    let totals = match load_checked(alloc, host, files.db.as_str(), MOST_DATABASE + 1) {
-        Ok(totals) => totals,
+    let db = match load(alloc, host, files.db.as_str(), MOST_DATABASE + 1) {
+        Ok(db) => db,
         Err(status) => return status,
     };
-    let line = match totals_line(alloc, &totals) {
+    let line = match totals_line(alloc, &totals_of(db.database())) {
         Ok(line) => line,
         Err(_) => return Status::NoMemory,
     };

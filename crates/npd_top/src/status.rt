@@ -59,15 +59,20 @@ pub enum Status {
     Done,
     /// The file of this role was not opened. Nothing is written.
     Open { role: Role },
-    /// The file of this role was not read to its end. No output is opened.
+    /// The file of this role was not read to its end. No output is opened, unless it is the capture and its file
+    /// header was read: then the packets that were wholly read are written, and the output isn't closed.
     Read { role: Role },
     /// The output of this role did not take its whole text: it holds a proper front of it.
     Write { role: Role },
     /// The text of the database is refused, or the check of it, with a line, from 1, and a code. No output is opened.
     Database { line: u32, code: u8 },
+    /// The capture is broken, at an offset in bytes and with a code, as `pcap_in` has them. Without a file header no
+    /// output is opened; behind one the packets before the offset are written, and the output is closed.
+    Capture { offset: u64, code: u8 },
     /// Memory was refused. No output is opened, or the output holds a front of its whole text.
     NoMemory,
-    /// This part of the input has a form that isn't built yet. Nothing is written.
+    /// This part of the input has a form that isn't built yet. Nothing is written, unless it is the capture, which has
+    /// more than 4,294,967,295 packets: then these are written, and the output isn't closed.
     Unbuilt { part: Part },
 }
 
@@ -92,8 +97,8 @@ impl From<AllocError> for Status {
 }
 
 impl Status {
-    /// The process's exit number: 0 for `Done`, 3 to 5 for `Open`, `Read` and `Write`, 6 for `Database`, 12 for
-    /// `NoMemory`, 20 for `Unbuilt`. Takes no memory.
+    /// The process's exit number: 0 for `Done`, 3 to 5 for `Open`, `Read` and `Write`, 6 for `Database`, 7 for
+    /// `Capture`, 12 for `NoMemory`, 20 for `Unbuilt`. Takes no memory.
     pub fn exit(&self) -> u8
         ensures { result ≡ exit_of self.now }
     {
@@ -103,6 +108,7 @@ impl Status {
             Status::Read { .. } => 4,
             Status::Write { .. } => 5,
             Status::Database { .. } => 6,
+            Status::Capture { .. } => 7,
             Status::NoMemory => 12,
             Status::Unbuilt { .. } => 20,
         }
@@ -117,7 +123,10 @@ impl Status {
             Status::Open { role } => line(alloc, "open ", role.word())?,
             Status::Read { role } => line(alloc, "read ", role.word())?,
             Status::Write { role } => line(alloc, "write ", role.word())?,
-            Status::Database { line, code } => fault_line(alloc, *line, *code)?,
+            Status::Database { line, code } => {
+                fault_line(alloc, "database ", u64::from(*line), *code)?
+            }
+            Status::Capture { offset, code } => fault_line(alloc, "capture ", *offset, *code)?,
             Status::NoMemory => line(alloc, "no memory", "")?,
             Status::Unbuilt { part } => line(alloc, "unbuilt ", part.word())?,
         };
@@ -125,15 +134,16 @@ impl Status {
     }
 }
 
-/// `npd: database LINE CODE`, and LF.
-fn fault_line(alloc: Global, line: u32, code: u8) -> Result<Vec<u8>, AllocError>
+/// `npd: `, which input is at fault, where and with which code, and LF.
+fn fault_line(alloc: Global, which: &str, place: u64, code: u8) -> Result<Vec<u8>, AllocError>
     ensures { IfOk result (λ text. text.items
-        ≡ codes "npd: " ++ (codes "database " ++ (decimal line ++ (codes " " ++ decimal code)))
+        ≡ codes "npd: " ++ (which.now ++ (decimal place ++ (codes " " ++ decimal code)))
         ++ 10 ∷ []) }
 {
     let mut buffer = Buffer::new();
-    let mut text = Vec::from_slice(alloc, b"npd: database ")?;
-    text.extend_from_slice(buffer.format(line).as_bytes())?;
+    let mut text = Vec::from_slice(alloc, b"npd: ")?;
+    text.extend_from_slice(which.as_bytes())?;
+    text.extend_from_slice(buffer.format(place).as_bytes())?;
     text.extend_from_slice(b" ")?;
     text.extend_from_slice(buffer.format(code).as_bytes())?;
     text.push(b'\n')?;

@@ -1,10 +1,17 @@
 ghost use Rattle.std.specs.Prelude.{◌≡◌, ◌++◌, OnOk, IfOk, decimal};
 ghost use Rattle.npd_top.specs.CheckRun;
 
-use crate::markup::push;
 use db_model::{Database, NoMemory};
 use itoa::Buffer;
 use std::alloc::Global;
+
+/// Adds bytes as they are.
+fn push(text: &mut Vec<u8>, bytes: &[u8]) -> Result<(), NoMemory>
+    ensures { OnOk result (text.new.items ≡ text.old.items ++ bytes.now) }
+{
+    text.extend_from_slice(bytes)?;
+    Ok(())
+}
 
 /// Adds a number in decimal behind a word.
 fn push_count(text: &mut Vec<u8>, word: &str, count: usize) -> Result<(), NoMemory>

@@ -1,4 +1,5 @@
 pub mod Ends
+pub mod Fronts
 pub mod Headers
 pub mod More
 pub mod ReaderLemmas

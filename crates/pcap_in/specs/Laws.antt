@@ -1,8 +1,9 @@
 -- What the records of a capture are, with no bound on their number, and what a limit makes of a capture that is read.
-use Rattle.std.specs.Prelude.{◌≡◌, ◌<◌, ◌↔◌, ℕ, ◌+◌, List, [], length}
+use Rattle.std.specs.Prelude.{◌≡◌, ◌<◌, ◌↔◌, ℕ, ◌+◌, List, [], ◌∷◌, ◌++◌, length, Ok}
 use Rattle.db_model.specs.declared.packet.Packet.{Packet}
 use Rattle.pcap_in.specs.declared.form.Form.{Form}
-use Rattle.pcap_in.specs.Capture.{Seen, Whole, Limit, whole_end, with_front, record_at, step_then, record_size, records, cap, seen}
+use Rattle.pcap_in.specs.Capture.{Seen, Whole, Limit, whole_end, with_front, One, header, record_at, step_then, record_size, records, cap, seen}
+use Rattle.pcap_in.specs.Reading.{record_length}
 
 -- the records of any bytes are what stands at their front, and then the records of the bytes behind it
 abbrev pub RecordsAreSteps : Type 0
@@ -24,3 +25,16 @@ pub record IsSeenSoFar (b : List ℕ) (packets : List Packet) (rest : Seen) (mos
 abbrev pub SeenIsRead : Type 0
 SeenIsRead = (b : List ℕ) (packets : List Packet) (rest : Seen) (most : ℕ)
     → 0 < most → cap b ≡ with_front packets rest → IsSeenSoFar b packets rest most
+
+-- a header at the front of some bytes is theirs, and behind it stand the records of the others
+abbrev pub HeaderIsFront : Type 0
+HeaderIsFront = (form : Form) (head more : List ℕ) → length head ≡ 24 → header head ≡ Ok form → (header (head ++ more) ≡ Ok form) × (cap (head ++ more) ≡ records form 0 24 more)
+
+-- a record at the front of some bytes is that record, and then come the records of the others
+abbrev pub RecordIsFront : Type 0
+RecordIsFront = (form : Form) (number offset : ℕ) (bytes more : List ℕ) (packet : Packet) → record_at form number bytes ≡ One packet []
+    → records form number offset (bytes ++ more) ≡ with_front (packet ∷ []) (records form (number + 1) (offset + record_size packet) more)
+
+-- fewer bytes than the record that they begin have no packet
+abbrev pub PartHasNone : Type 0
+PartHasNone = (form : Form) (number offset : ℕ) (bytes : List ℕ) → length bytes < record_length form bytes → (records form number offset bytes).packets ≡ []

@@ -1,5 +1,5 @@
 //! What the definition of a capture comes to.
-ghost use Rattle.pcap_in.specs.Laws.{RecordsAreSteps, EndsWithoutBytes, SeenIsRead};
+ghost use Rattle.pcap_in.specs.Laws.{RecordsAreSteps, EndsWithoutBytes, SeenIsRead, HeaderIsFront, RecordIsFront, PartHasNone};
 
 /// The records of any bytes are what stands at their front, and then the records of the bytes behind it.
 pub fn records_are_steps()
@@ -14,4 +14,12 @@ pub fn ends_without_bytes()
 /// With a limit of packets, what is seen of a capture is told by the packets that were read and by what is left.
 pub fn seen_is_read()
     ensures { SeenIsRead }
+{}
+
+/// What was taken of a capture tells the packets that were wholly taken: a header and a record stay what they are,
+/// whatever follows them, and fewer bytes than a record have no packet.
+pub fn fronts_tell()
+    ensures header { HeaderIsFront }
+    ensures one { RecordIsFront }
+    ensures part { PartHasNone }
 {}

@@ -1,4 +1,4 @@
-ghost use Rattle.std.specs.Prelude.{◌≡◌, ◌<◌, ◌*◌, ◌^◌, ◌++◌, ℕ, IsTrue, IsSome, IfSome, IfOk, IsErrOf, Err};
+ghost use Rattle.std.specs.Prelude.{◌≡◌, ◌<◌, ◌*◌, ◌^◌, ◌++◌, ℕ, [], IsTrue, IsSome, IfSome, IfOk, IsErrOf, Err};
 ghost use Rattle.npd_host.specs.declared.host.CallKind.{CallKind};
 ghost use Rattle.npd_host.specs.Host.{CountRose, MovesInputsOnly};
 ghost use Rattle.pcap_in.specs.Reading.{OnlyRead, ahead};
@@ -53,6 +53,7 @@ impl CapReader {
             Begins result bytes (H.inputs host.new)) }
         ensures id { IfOk result (λ r. r.id ≡ id) }
         ensures number { IfOk result (λ r. r.number ≡ 0) }
+        ensures kept { IfOk result (λ r. r.kept ≡ []) }
         ensures reading { IfOk result (λ r. IsTrue (is_reading r.state)) }
         ensures usable { IfOk result (λ r. IsTrue (is_usable r.state)) }
         ensures reach { IfOk result (λ r. InReach r (H.inputs host.new)) }

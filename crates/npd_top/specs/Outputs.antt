@@ -1,0 +1,42 @@
+-- What an output of packets is, by its role: its opening, the text of each packet, in order, and its closing. A packet is
+-- decoded from the session that the one before it left, and the first from that of the database.
+use Rattle.std.specs.Prelude.{ℕ, zero, suc, List, [], ◌++◌, length, Option, Some, None, slice_get}
+use Rattle.db_model.specs.declared.database.Database.{Database}
+use Rattle.db_model.specs.declared.packet.Packet.{Packet}
+use Rattle.db_model.specs.declared.tree.Proto.{Proto}
+use Rattle.db_model.specs.Serial.{tree}
+use Rattle.db_model.specs.Session.{declared}
+use Rattle.pdml_out.specs.Pdml as pdml
+use Rattle.npd_top.specs.declared.status.Role.{Role}
+use Rattle.npd_top.specs.declared.status.Role.TheVariants.{Pdml}
+
+-- the inputs, and the output of a command's line, have no packets
+abbrev pub opening : Role → Database → List ℕ
+opening Pdml db = pdml.opening
+opening other db = []
+
+abbrev pub packet_text : Role → Database → Packet → List Proto → List ℕ
+packet_text Pdml db packet protos = pdml.packet_text db packet protos
+packet_text other db packet protos = []
+
+abbrev pub closing : Role → List ℕ
+closing Pdml = pdml.closing
+closing other = []
+
+-- the text of a packet that stands at a place, with its tree
+abbrev pub text_of : Role → Database → Option Packet → List Proto → List ℕ
+text_of role db None protos = []
+text_of role db (Some packet) protos = packet_text role db packet protos
+
+-- the texts of the first k packets
+abbrev pub texts : Role → Database → List Packet → ℕ → List ℕ
+texts role db packets zero = []
+texts role db packets (suc k) = texts role db packets k ++ text_of role db (slice_get packets k) (tree db (declared db) packets k)
+
+-- the opening and these packets
+unfoldable pub open_text : Role → Database → List Packet → List ℕ
+open_text role db packets = opening role db ++ texts role db packets (length packets)
+
+-- the same, and the closing
+unfoldable pub whole_text : Role → Database → List Packet → List ℕ
+whole_text role db packets = open_text role db packets ++ closing role
