@@ -1,0 +1,4 @@
+pub mod Again
+pub mod LawsHold
+pub mod Looking
+pub mod Recorded
