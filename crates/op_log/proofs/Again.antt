@@ -1,5 +1,5 @@
 -- A log that is asked again, up to a place: what differs in the whole is what differs in the rest.
-use Rattle.std.specs.Prelude.{◌≡◌, ℕ, suc, ◌+◌, ◌<◌, ◌≤◌, Bool, true, false, ◌&&◌, [], ◌∷◌, length, drop, ◌↔◌, Option, Some, None}
+use Rattle.std.specs.Prelude.{◌≡◌, ℕ, suc, ◌+◌, ◌<◌, ◌≤◌, Bool, true, false, ◌&&◌, [], ◌∷◌, length, drop, ◌↔◌, Option, Some, None, unwrap_or}
 use Rattle.std.proofs.Common.{refl, sym, ap, ◌∙◌, arith, get_or, zero-add}
 use Rattle.std.proofs.lemmas.List.{drop_more, drop_all}
 use Rattle.db_model.specs.declared.database.Database.{Database}
@@ -33,7 +33,7 @@ by_none false old new e = (cc)
 
 by_some : (b : Bool) (old new x y : Answer) → unless b old new ≡ Some (x, y) → (b ≡ false) × (old ≡ x) × (new ≡ y)
 by_some true old new x y e = (cc)
-by_some false old new x y e = (refl, cc, cc)
+by_some false old new x y e = (refl, ap (λ (o : Option (Answer × Answer)). (unwrap_or o (old, new)).0) e, ap (λ (o : Option (Answer × Answer)). (unwrap_or o (old, new)).1) e)
 
 two : (a b : Bool) → a && b ≡ true → (a ≡ true) × (b ≡ true)
 two true b h = (refl, h)
