@@ -16,6 +16,11 @@ impl Model for OfDatabase {
     ghost also_owns = { λ _. ftrue };
 }
 
+// It owns nothing.
+unsafe impl Send for OfDatabase {}
+
+unsafe impl Sync for OfDatabase {}
+
 impl OfDatabase {
     pub fn new(_db: &CheckedDb) -> OfDatabase
         ensures { result.database ≡ _db.now }

@@ -36,7 +36,8 @@ impl SessionView {
 
     /// A session with the content of this view, without room for a question.
     pub fn open(&self) -> Result<Session, NoMemory>
-        ensures { IfOk result (λ s. view_of s ≡ self.now) }
+        ensures database { IfOk result (λ s. s.database ≡ self.now.database) }
+        ensures content { IfOk result (λ s. s.content ≡ self.now.content) }
     {
         self.session.copy()
     }
