@@ -1,4 +1,2 @@
 pub mod Again
-pub mod LawsHold
 pub mod Looking
-pub mod Recorded

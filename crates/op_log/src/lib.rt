@@ -17,6 +17,4 @@ pub use applying::apply;
 pub use checking::check;
 pub use overlay::Overlay;
 pub use recording::record;
-pub use transcript::Check;
-pub use transcript::Record;
-pub use transcript::Transcript;
+pub use transcript::{Check, Record, Transcript};

@@ -22,3 +22,12 @@ pub enum Check {
         new: Answer,
     },
 }
+
+/// What one thread may hand on to another.
+trait HandedOn: Send {}
+
+impl HandedOn for Transcript {}
+
+impl HandedOn for Record {}
+
+impl HandedOn for Check {}

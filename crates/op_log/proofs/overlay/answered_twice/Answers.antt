@@ -18,13 +18,13 @@ returns-in_ok-_done-in-Add-clause-answers c = added_twice c.args.session.now.dat
 pub returns-after-renew-clause-answers : goal.returns-after-renew-clause-answers
 returns-after-renew-clause-answers c =
     elim c.if-renew.branch [
-      then-renew+in_ok-_renewed-in-Look+in-Hit-1 w ↦
+      | then-renew+in_ok-_renewed-in-Look+in-Hit-1 w ↦
           subst (λ (x : State). Twice c.args.session.now.database c.args.t c.args.question.now c.args.session.now.content (Ok (c.in_ok-answer-in-Look.answer, c.in_ok-answer-in-Look.noted)) x.content) (sym w.session-is)
           (renewed_twice c.args.session.now.database c.args.t c.args.session.now.content w.ask-then-renew.new.self.content c.args.question.now c.in-Look.table c.in-Look.keys c.in-Look.renew c.in-Look.is (c.in_ok-answer-in-Look.answer, c.in_ok-answer-in-Look.noted) c.in_ok-answer-in-Look.ensures.answers c.looked_up.new.session.database c.looked_up.new.session.content w.in_ok-_renewed-in-Look._renewed c.in_ok-answer-in-Look.ensures.database c.in_ok-answer-in-Look.ensures.content w.in_ok-_renewed-in-Look.ensures.answer)
-    | then-renew+in_ok-_renewed-in-Look+in-Miss-1 w ↦
+      | then-renew+in_ok-_renewed-in-Look+in-Miss-1 w ↦
           subst (λ (x : State). Twice c.args.session.now.database c.args.t c.args.question.now c.args.session.now.content (Ok (c.in_ok-answer-in-Look.answer, c.in_ok-answer-in-Look.noted)) x.content) (sym w.session-is)
           (renewed_twice c.args.session.now.database c.args.t c.args.session.now.content w.ask-then-renew.new.self.content c.args.question.now c.in-Look.table c.in-Look.keys c.in-Look.renew c.in-Look.is (c.in_ok-answer-in-Look.answer, c.in_ok-answer-in-Look.noted) c.in_ok-answer-in-Look.ensures.answers c.looked_up.new.session.database c.looked_up.new.session.content w.in_ok-_renewed-in-Look._renewed c.in_ok-answer-in-Look.ensures.database c.in_ok-answer-in-Look.ensures.content w.in_ok-_renewed-in-Look.ensures.answer)
-    | else-renew w ↦
+      | else-renew w ↦
           subst (λ (x : State). Twice c.args.session.now.database c.args.t c.args.question.now c.args.session.now.content (Ok (c.in_ok-answer-in-Look.answer, c.in_ok-answer-in-Look.noted)) x.content) (sym w.session-is)
           (plainly_twice c.args.session.now.database c.args.t c.args.session.now.content c.looked_up.new.session.content c.args.question.now c.in-Look.table c.in-Look.keys c.in-Look.renew c.in-Look.is (c.in_ok-answer-in-Look.answer, c.in_ok-answer-in-Look.noted) c.in_ok-answer-in-Look.ensures.answers w.if-renew.false c.in_ok-answer-in-Look.ensures.content)
     ]
