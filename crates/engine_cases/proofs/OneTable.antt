@@ -1,6 +1,6 @@
 -- What sessions of no table and of one table answer.
 use Rattle.std.specs.Prelude.{◌≡◌, ◌≢◌, ℕ, zero, suc, Bool, true, false, ◌&&◌, List, [], ◌∷◌, slice_get, Option, Some, None}
-use Rattle.std.proofs.Common.{refl, ap, sym, ◌∙◌}
+use Rattle.std.proofs.Common.{refl, ap, sym, subst, ◌∙◌}
 use Rattle.db_model.specs.declared.database.Database.{Database}
 use Rattle.db_model.specs.declared.database.TableDecl.{TableDecl}
 use Rattle.db_model.specs.declared.entry.NewEntry.{NewEntry}
@@ -68,3 +68,31 @@ left_true false b e = e
 pub add_in_first : (db : Database) (d : TableDecl) (entry : NewEntry) → slice_get db.tables 0 ≡ Some d → question_fits db (Add 0 entry) ≡ true → add_fits d entry ≡ true
 unfolding question_fits
 add_in_first db d entry e fits = left_true (add_fits d entry) (row_declared db entry.row) (sym (ap (λ o. add_fits_in db o entry) e) ∙ fits)
+
+-- ---- a question that is one of these
+
+pub looks_for_nothing : (db : Database) (q : Question) (n : ℕ) (keys : KeyList) (renew : Bool) (t : ℕ) → q ≡ Look n keys renew → ask db [] q t ≡ (Miss, [])
+looks_for_nothing db q n keys renew t is = ap (λ x. ask db [] x t) is ∙ look_none db n keys renew t
+
+pub adds_nothing : (db : Database) (q : Question) (n : ℕ) (entry : NewEntry) (t : ℕ) → q ≡ Add n entry → ask db [] q t ≡ (Done, [])
+adds_nothing db q n entry t is = ap (λ x. ask db [] x t) is ∙ add_none db n entry t
+
+pub look_fits_first : (db : Database) (d : TableDecl) (q : Question) (n : ℕ) (keys : KeyList) (renew : Bool) → slice_get db.tables 0 ≡ Some d → question_fits db q ≡ true → q ≡ Look n keys renew → n ≡ 0 → look_fits d keys ≡ true
+look_fits_first db d q n keys renew e fits is first = look_in_first db d keys renew e (subst (λ m. question_fits db (Look m keys renew) ≡ true) first (subst (λ x. question_fits db x ≡ true) is fits))
+
+pub add_fits_first : (db : Database) (d : TableDecl) (q : Question) (n : ℕ) (entry : NewEntry) → slice_get db.tables 0 ≡ Some d → question_fits db q ≡ true → q ≡ Add n entry → n ≡ 0 → add_fits d entry ≡ true
+add_fits_first db d q n entry e fits is first = add_in_first db d entry e (subst (λ m. question_fits db (Add m entry) ≡ true) first (subst (λ x. question_fits db x ≡ true) is fits))
+
+pub looks : (db : Database) (d : TableDecl) (table after : Parts) (q : Question) (n : ℕ) (keys : KeyList) (renew : Bool) (t : ℕ) (answer : Answer) → slice_get db.tables 0 ≡ Some d → q ≡ Look n keys renew → n ≡ 0 → answer ≡ (look d table keys renew t).0 → after ≡ (look d table keys renew t).1 → ask db (table ∷ []) q t ≡ (answer, after ∷ [])
+looks db d table after q n keys renew t answer e is first gave left =
+    ap (λ x. ask db (table ∷ []) x t) is ∙ (ap (λ m. ask db (table ∷ []) (Look m keys renew) t) first ∙ (look_first db d table keys renew t e ∙ (ap (λ (a : Answer). (a, (look d table keys renew t).1 ∷ [])) (sym gave) ∙ ap (λ (p : Parts). (answer, p ∷ [])) (sym left))))
+
+pub looks_elsewhere : (db : Database) (table : Parts) (q : Question) (n : ℕ) (keys : KeyList) (renew : Bool) (t : ℕ) → q ≡ Look n keys renew → n ≢ 0 → ask db (table ∷ []) q t ≡ (Miss, table ∷ [])
+looks_elsewhere db table q n keys renew t is other = ap (λ x. ask db (table ∷ []) x t) is ∙ look_other db table n keys renew t other
+
+pub adds : (db : Database) (d : TableDecl) (table after : Parts) (q : Question) (n : ℕ) (entry : NewEntry) (t : ℕ) → slice_get db.tables 0 ≡ Some d → q ≡ Add n entry → n ≡ 0 → after ≡ add d table entry t → ask db (table ∷ []) q t ≡ (Done, after ∷ [])
+adds db d table after q n entry t e is first left =
+    ap (λ x. ask db (table ∷ []) x t) is ∙ (ap (λ m. ask db (table ∷ []) (Add m entry) t) first ∙ (add_first db d table entry t e ∙ ap (λ (p : Parts). (Done, p ∷ [])) (sym left)))
+
+pub adds_elsewhere : (db : Database) (table : Parts) (q : Question) (n : ℕ) (entry : NewEntry) (t : ℕ) → q ≡ Add n entry → n ≢ 0 → ask db (table ∷ []) q t ≡ (Done, table ∷ [])
+adds_elsewhere db table q n entry t is other = ap (λ x. ask db (table ∷ []) x t) is ∙ add_other db table n entry t other

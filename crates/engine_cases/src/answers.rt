@@ -114,8 +114,10 @@ fn answer_of(db: &CheckedDb, table: &mut ListTable, question: &Question, t: Stam
         } => {
             if *number == 0 {
                 table.add(entry, t);
+                Answer::Done
+            } else {
+                Answer::Done
             }
-            Answer::Done
         }
     }
 }

@@ -37,6 +37,7 @@ fn place(alloc: Global, text: &mut String, pos: u32, size: u32) -> Option<()> {
     text.push_str(digits.as_str()).ok()
 }
 
+#[cycle(nodes)]
 fn nodes(alloc: Global, text: &mut String, depth: u32, list: &[Node]) -> Option<()> {
     for node in list {
         one(alloc, text, depth, node)?;
@@ -51,6 +52,7 @@ fn indent(text: &mut String, depth: u32) -> Option<()> {
     Some(())
 }
 
+#[cycle(nodes)]
 fn one(alloc: Global, text: &mut String, depth: u32, node: &Node) -> Option<()> {
     indent(text, depth)?;
     match node {
