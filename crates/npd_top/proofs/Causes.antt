@@ -95,7 +95,7 @@ opens_unloaded (Unbuilt part.Database) files before after opens same cause = rec
 opens_unloaded (Unbuilt part.Capture) files before after opens same cause = absurd cause
 
 -- one more behind one
-two_more : (now mid before : List (List ℕ)) (a b : List ℕ) → mid ≡ before ++ a ∷ [] → now ≡ mid ++ b ∷ [] → now ≡ before ++ a ∷ b ∷ []
+pub two_more : (now mid before : List (List ℕ)) (a b : List ℕ) → mid ≡ before ++ a ∷ [] → now ≡ mid ++ b ∷ [] → now ≡ before ++ a ∷ b ∷ []
 two_more now mid before a b first second = second ∙ ap (λ (l : List (List ℕ)). l ++ b ∷ []) first ∙ append_assoc before (a ∷ []) (b ∷ [])
 
 pub opens_unopened : (status : Status) (files : DecodeFiles) (before after : Outside) (mid : List (List ℕ)) (faults : CallKind → List ℕ → ℕ) → mid ≡ before.inputs.opened ++ files.db ∷ [] → OpensOne {A = Unit {0}} files.cap mid after.inputs.opened (Err status)
