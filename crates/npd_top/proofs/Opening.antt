@@ -13,7 +13,7 @@ use Rattle.npd_top.specs.DecodeRun.{GaveOf}
 use Rattle.npd_top.proofs.Told.{told_here}
 
 -- what the input holds before and after
-front_of : (held : Option (List ℕ)) (bytes : List ℕ) (now : Option (List ℕ)) (given : List ℕ) → held ≡ Some bytes → FrontIs held now given → (rest : List ℕ) × (now ≡ Some rest) × (bytes ≡ given ++ rest)
+pub front_of : (held : Option (List ℕ)) (bytes : List ℕ) (now : Option (List ℕ)) (given : List ℕ) → held ≡ Some bytes → FrontIs held now given → (rest : List ℕ) × (now ≡ Some rest) × (bytes ≡ given ++ rest)
 front_of None bytes now given e front = absurd (never e)
   where
     never : ◌≡◌ {A = Option (List ℕ)} None (Some bytes) → ⊥

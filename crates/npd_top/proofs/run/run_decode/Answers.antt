@@ -1,6 +1,8 @@
-use Rattle.std.proofs.Common.{ap, ◌∙◌, ◌≤◌, ◌+◌, arith}
+use Rattle.std.proofs.Common.{ap, ◌∙◌, ◌≤◌, ◌+◌, List, ℕ, Err, subst, arith}
+use Rattle.pcap_in.specs.Reader.{Reader}
+use Rattle.npd_top.specs.declared.decoder.Decoder.{Decoder}
 use Rattle.npd_host.specs.Host.{Inputs, Outputs}
-use Rattle.npd_top.specs.Outside.{seen}
+use Rattle.npd_top.specs.Outside.{seen, OpensOne}
 use Rattle.npd_top.proofs.Causes.{cause_unloaded, cause_unopened, cause_decoded, opens_unloaded, opens_unopened, opens_decoded, two_more}
 use Rattle.npd_top.proofs.Runs.{Rests, says_unloaded, says_unopened, says_decoded}
 use Rattle.npd_top.proofs.run.run_decode.Goals as goal
@@ -9,7 +11,7 @@ pub returns-in-Err-clause-opens : goal.returns-in-Err-clause-opens
 returns-in-Err-clause-opens g c =
     let before = seen g.H.Host c.args.host.now in
     let after = seen g.H.Host c.load_decoder.new.host in
-    opens_unloaded c.in-Err.status c.args.files.now before after (rw c.as_str.ensures at c.in-Err.ensures.opens) (ap (λ (o : Outputs). o.opened) c.in-Err.ensures.frame.outputs) (rw c.as_str.ensures at c.in-Err.ensures.cause)
+    opens_unloaded Decoder c.in-Err.status c.args.files.now before after (subst (λ (n : List ℕ). OpensOne {A = Decoder} n before.inputs.opened after.inputs.opened (Err c.in-Err.status)) c.as_str.ensures c.in-Err.ensures.opens) (ap (λ (o : Outputs). o.opened) c.in-Err.ensures.frame.outputs) (rw c.as_str.ensures at c.in-Err.ensures.cause)
 
 pub returns-in-Err-clause-says : goal.returns-in-Err-clause-says
 returns-in-Err-clause-says g c =
@@ -29,7 +31,7 @@ returns-in-Err-open_capture-clause-opens g c =
     let before = seen H c.args.host.now in
     let after = seen H c.open_capture.new.host in
     let capture = c.in-Err-open_capture.ensures in
-    opens_unopened c.in-Err-open_capture.status c.args.files.now before after (H.inputs c.load_decoder.new.host).opened (H.faults c.load_decoder.new.host) (rw c.as_str.ensures at c.in-Ok.ensures.opens) (rw c.as_str-2.ensures at capture.opens)
+    opens_unopened Reader c.in-Err-open_capture.status c.args.files.now before after (H.inputs c.load_decoder.new.host).opened (H.faults c.load_decoder.new.host) (rw c.as_str.ensures at c.in-Ok.ensures.opens) (subst (λ (n : List ℕ). OpensOne {A = Reader} n (H.inputs c.load_decoder.new.host).opened after.inputs.opened (Err c.in-Err-open_capture.status)) c.as_str-2.ensures capture.opens)
     (ap (λ (o : Outputs). o.opened) (capture.frame.outputs ∙ c.in-Ok.ensures.frame.outputs)) (rw c.as_str-2.ensures at capture.cause)
 
 pub returns-in-Err-open_capture-clause-says : goal.returns-in-Err-open_capture-clause-says
@@ -62,7 +64,8 @@ returns-clause-opens g c =
     let same = capture.frame.outputs ∙ c.in-Ok.ensures.frame.outputs in
     opens_decoded c.write_pdml.result c.args.files.now before after (H.faults c.open_capture.new.host)
     (c.write_pdml.ensures.inputs.gave.opened ∙ two_more _ _ _ c.args.files.now.db c.args.files.now.cap db cap)
-    (rw (c.as_str-3.ensures, same) at c.write_pdml.ensures.opens)
+    (subst (λ (n : List ℕ). OpensOne {A = Unit {0}} n before.outputs.opened after.outputs.opened (Err c.write_pdml.result)) c.as_str-3.ensures
+    (subst (λ (o : Outputs). OpensOne {A = Unit {0}} c.as_str-3.result.now o.opened after.outputs.opened (Err c.write_pdml.result)) same c.write_pdml.ensures.opens))
     (rw (named_cap, c.as_str-3.ensures) at c.write_pdml.ensures.cause)
 
 pub returns-clause-says : goal.returns-clause-says
