@@ -74,48 +74,48 @@ cause_decoded (Unbuilt which) files before after mid later cause = tt
 none_more : (now before : List (List ℕ)) → now ≡ before → now ≡ before ++ []
 none_more now before e = e ∙ sym (append-nil before)
 
-pub opens_unloaded : (status : Status) (files : DecodeFiles) (before after : Outside) → OpensOne {A = Unit {0}} files.db before.inputs.opened after.inputs.opened (Err status) → after.outputs.opened ≡ before.outputs.opened
+pub opens_unloaded : (A : Type 0) (status : Status) (files : DecodeFiles) (before after : Outside) → OpensOne {A = A} files.db before.inputs.opened after.inputs.opened (Err status) → after.outputs.opened ≡ before.outputs.opened
     → HasServedCause files.db before.faults after.faults status → DecodeOpens status files before after
-opens_unloaded Done files before after opens same cause = absurd cause
-opens_unloaded (Open Db) files before after opens same cause = record { inputs = none_more _ _ opens; outputs = none_more _ _ same }
-opens_unloaded (Open Cap) files before after opens same cause = absurd cause
-opens_unloaded (Open Pdml) files before after opens same cause = absurd cause
-opens_unloaded (Open Out) files before after opens same cause = absurd cause
-opens_unloaded (Read Db) files before after opens same cause = record { inputs = opens; outputs = none_more _ _ same }
-opens_unloaded (Read Cap) files before after opens same cause = absurd cause
-opens_unloaded (Read Pdml) files before after opens same cause = absurd cause
-opens_unloaded (Read Out) files before after opens same cause = absurd cause
-opens_unloaded (Write role) files before after opens same cause = absurd cause
-opens_unloaded (Database line code) files before after opens same cause = record { inputs = opens; outputs = none_more _ _ same }
-opens_unloaded (Capture offset code) files before after opens same cause = absurd cause
-opens_unloaded NoMemory files before after opens same cause =
+opens_unloaded A Done files before after opens same cause = absurd cause
+opens_unloaded A (Open Db) files before after opens same cause = record { inputs = none_more _ _ opens; outputs = none_more _ _ same }
+opens_unloaded A (Open Cap) files before after opens same cause = absurd cause
+opens_unloaded A (Open Pdml) files before after opens same cause = absurd cause
+opens_unloaded A (Open Out) files before after opens same cause = absurd cause
+opens_unloaded A (Read Db) files before after opens same cause = record { inputs = opens; outputs = none_more _ _ same }
+opens_unloaded A (Read Cap) files before after opens same cause = absurd cause
+opens_unloaded A (Read Pdml) files before after opens same cause = absurd cause
+opens_unloaded A (Read Out) files before after opens same cause = absurd cause
+opens_unloaded A (Write role) files before after opens same cause = absurd cause
+opens_unloaded A (Database line code) files before after opens same cause = record { inputs = opens; outputs = none_more _ _ same }
+opens_unloaded A (Capture offset code) files before after opens same cause = absurd cause
+opens_unloaded A NoMemory files before after opens same cause =
     ⊎_elim (λ none. inl (record { inputs = none_more _ _ none; outputs = none_more _ _ same })) (λ one. inr (inl (record { inputs = one; outputs = none_more _ _ same }))) opens
-opens_unloaded (Unbuilt part.Words) files before after opens same cause = absurd cause
-opens_unloaded (Unbuilt part.Database) files before after opens same cause = record { inputs = opens; outputs = none_more _ _ same }
-opens_unloaded (Unbuilt part.Capture) files before after opens same cause = absurd cause
+opens_unloaded A (Unbuilt part.Words) files before after opens same cause = absurd cause
+opens_unloaded A (Unbuilt part.Database) files before after opens same cause = record { inputs = opens; outputs = none_more _ _ same }
+opens_unloaded A (Unbuilt part.Capture) files before after opens same cause = absurd cause
 
 -- one more behind one
-two_more : (now mid before : List (List ℕ)) (a b : List ℕ) → mid ≡ before ++ a ∷ [] → now ≡ mid ++ b ∷ [] → now ≡ before ++ a ∷ b ∷ []
+pub two_more : (now mid before : List (List ℕ)) (a b : List ℕ) → mid ≡ before ++ a ∷ [] → now ≡ mid ++ b ∷ [] → now ≡ before ++ a ∷ b ∷ []
 two_more now mid before a b first second = second ∙ ap (λ (l : List (List ℕ)). l ++ b ∷ []) first ∙ append_assoc before (a ∷ []) (b ∷ [])
 
-pub opens_unopened : (status : Status) (files : DecodeFiles) (before after : Outside) (mid : List (List ℕ)) (faults : CallKind → List ℕ → ℕ) → mid ≡ before.inputs.opened ++ files.db ∷ [] → OpensOne {A = Unit {0}} files.cap mid after.inputs.opened (Err status)
+pub opens_unopened : (A : Type 0) (status : Status) (files : DecodeFiles) (before after : Outside) (mid : List (List ℕ)) (faults : CallKind → List ℕ → ℕ) → mid ≡ before.inputs.opened ++ files.db ∷ [] → OpensOne {A = A} files.cap mid after.inputs.opened (Err status)
     → after.outputs.opened ≡ before.outputs.opened → HasCaptureCause files.cap faults after.faults status → DecodeOpens status files before after
-opens_unopened Done files before after mid faults db opens same cause = absurd cause
-opens_unopened (Open Db) files before after mid faults db opens same cause = absurd cause
-opens_unopened (Open Cap) files before after mid faults db opens same cause = record { inputs = opens ∙ db; outputs = none_more _ _ same }
-opens_unopened (Open Pdml) files before after mid faults db opens same cause = absurd cause
-opens_unopened (Open Out) files before after mid faults db opens same cause = absurd cause
-opens_unopened (Read Db) files before after mid faults db opens same cause = absurd cause
-opens_unopened (Read Cap) files before after mid faults db opens same cause = inl (record { inputs = two_more _ mid _ files.db files.cap db opens; outputs = none_more _ _ same })
-opens_unopened (Read Pdml) files before after mid faults db opens same cause = absurd cause
-opens_unopened (Read Out) files before after mid faults db opens same cause = absurd cause
-opens_unopened (Write role) files before after mid faults db opens same cause = absurd cause
-opens_unopened (Database line code) files before after mid faults db opens same cause = absurd cause
-opens_unopened (Capture offset code) files before after mid faults db opens same cause = inl (record { inputs = two_more _ mid _ files.db files.cap db opens; outputs = none_more _ _ same })
-opens_unopened NoMemory files before after mid faults db opens same cause =
+opens_unopened A Done files before after mid faults db opens same cause = absurd cause
+opens_unopened A (Open Db) files before after mid faults db opens same cause = absurd cause
+opens_unopened A (Open Cap) files before after mid faults db opens same cause = record { inputs = opens ∙ db; outputs = none_more _ _ same }
+opens_unopened A (Open Pdml) files before after mid faults db opens same cause = absurd cause
+opens_unopened A (Open Out) files before after mid faults db opens same cause = absurd cause
+opens_unopened A (Read Db) files before after mid faults db opens same cause = absurd cause
+opens_unopened A (Read Cap) files before after mid faults db opens same cause = inl (record { inputs = two_more _ mid _ files.db files.cap db opens; outputs = none_more _ _ same })
+opens_unopened A (Read Pdml) files before after mid faults db opens same cause = absurd cause
+opens_unopened A (Read Out) files before after mid faults db opens same cause = absurd cause
+opens_unopened A (Write role) files before after mid faults db opens same cause = absurd cause
+opens_unopened A (Database line code) files before after mid faults db opens same cause = absurd cause
+opens_unopened A (Capture offset code) files before after mid faults db opens same cause = inl (record { inputs = two_more _ mid _ files.db files.cap db opens; outputs = none_more _ _ same })
+opens_unopened A NoMemory files before after mid faults db opens same cause =
     ⊎_elim (λ none. inr (inl (record { inputs = none ∙ db; outputs = none_more _ _ same })))
     (λ one. inr (inr (inl (record { inputs = two_more _ mid _ files.db files.cap db one; outputs = none_more _ _ same })))) opens
-opens_unopened (Unbuilt which) files before after mid faults db opens same cause = absurd cause
+opens_unopened A (Unbuilt which) files before after mid faults db opens same cause = absurd cause
 
 pub opens_decoded : (status : Status) (files : DecodeFiles) (before after : Outside) (faults : CallKind → List ℕ → ℕ) → after.inputs.opened ≡ before.inputs.opened ++ files.db ∷ files.cap ∷ [] → OpensOne {A = Unit {0}} files.pdml before.outputs.opened after.outputs.opened (Err status)
     → HasOutputCause (Some files.cap) files.pdml faults after.faults status → DecodeOpens status files before after

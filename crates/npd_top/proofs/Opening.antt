@@ -1,5 +1,5 @@
 -- What is found of a capture that was opened, and of one of which less than a header was taken.
-use Rattle.std.proofs.Common.{◌≡◌, ◌<◌, ℕ, true, List, [], ◌++◌, length, Option, Some, None, Result, Ok, Err, refl, sym, ap, ◌∙◌, IfSome, IsTrue, arith, cond, ltb}
+use Rattle.std.proofs.Common.{◌≡◌, ◌<◌, ℕ, true, List, [], ◌++◌, length, Option, Some, None, Result, Ok, Err, refl, sym, ap, ◌∙◌, subst, IfSome, IsTrue, arith, cond, ltb}
 use Rattle.std.proofs.lemmas.Bool.Decides.{nat_tests}
 use Rattle.npd_host.specs.Host.{Inputs, OpensInput, FrontIs, Gave}
 use Rattle.pcap_in.specs.declared.fail.CapFail.{CapFail}
@@ -13,7 +13,7 @@ use Rattle.npd_top.specs.DecodeRun.{GaveOf}
 use Rattle.npd_top.proofs.Told.{told_here}
 
 -- what the input holds before and after
-front_of : (held : Option (List ℕ)) (bytes : List ℕ) (now : Option (List ℕ)) (given : List ℕ) → held ≡ Some bytes → FrontIs held now given → (rest : List ℕ) × (now ≡ Some rest) × (bytes ≡ given ++ rest)
+pub front_of : (held : Option (List ℕ)) (bytes : List ℕ) (now : Option (List ℕ)) (given : List ℕ) → held ≡ Some bytes → FrontIs held now given → (rest : List ℕ) × (now ≡ Some rest) × (bytes ≡ given ++ rest)
 front_of None bytes now given e front = absurd (never e)
   where
     never : ◌≡◌ {A = Option (List ℕ)} None (Some bytes) → ⊥
@@ -42,9 +42,9 @@ pub opened : (name : List ℕ) (file : Option (List ℕ)) (r s t : Inputs) (id :
     → OnlyRead id s t (TakesHeader (Ok reader)) → IfSome (s.held id) (λ bytes. Begins (Ok reader) bytes t)
     → reader.number ≡ 0 → reader.kept ≡ [] → IsTrue (is_reading reader.state) → IsTrue (is_usable reader.state) → InReach reader t → IsOpen reader name file r t
 opened name file r s t id reader opens same read begins number kept reading usable reach =
-    let o : OpensInput r s reader.id.0 name file = rw same opens in
-    let only : OnlyRead reader.id.0 s t (TakesHeader (Ok reader)) = rw same read in
-    let is : IfSome (s.held reader.id.0) (λ bytes. Begins (Ok reader) bytes t) = rw same begins in
+    let o : OpensInput r s reader.id.0 name file = subst (λ (i : ℕ). OpensInput r s i name file) (sym same) opens in
+    let only : OnlyRead reader.id.0 s t (TakesHeader (Ok reader)) = subst (λ (i : ℕ). OnlyRead i s t (TakesHeader (Ok reader))) (sym same) read in
+    let is : IfSome (s.held reader.id.0) (λ bytes. Begins (Ok reader) bytes t) = subst (λ (i : ℕ). IfSome (s.held i) (λ bytes. Begins (Ok reader) bytes t)) (sym same) begins in
     record {
       fresh = o.fresh;
       named = ap (λ (f : ℕ → Option (List ℕ)). f reader.id.0) only.gave.names ∙ o.named;

@@ -220,10 +220,10 @@ says_unopened rests (Read Db) files before after mid faults db database opens ke
 says_unopened rests (Read Cap) files before after mid faults db database opens keeps same cause =
     finds_of (before.files files.db) (before.files files.cap) db (IsCut files before after) database
     (told_map (before.files files.cap) (λ bytes. (given : List ℕ) × GaveOf files.cap mid after.inputs bytes given × (length given < 24)) (IsCut files before after db) (λ bytes took.
-    let gave = took.1.0 in
+    let gave = took.1 in
     (took.0,
     record { id = gave.id; rest = gave.rest; fresh = keeps gave.id gave.fresh; named = gave.named; holds = gave.holds; parts = gave.parts },
-    without_header took.0 (capture.Broken 0 1) (WroteNothing before after) (Wrote before.outputs after.outputs files.pdml (open_text Pdml db (capture.cap took.0).packets)) (short_header took.0 took.1.1) same)) opens)
+    without_header took.0 (capture.Broken 0 1) (WroteNothing before after) (Wrote before.outputs after.outputs files.pdml (open_text Pdml db (capture.cap took.0).packets)) (short_header took.0 took.2) same)) opens)
 says_unopened rests (Read Pdml) files before after mid faults db database opens keeps same cause = absurd cause
 says_unopened rests (Read Out) files before after mid faults db database opens keeps same cause = absurd cause
 says_unopened rests (Write role) files before after mid faults db database opens keeps same cause = absurd cause

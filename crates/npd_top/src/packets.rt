@@ -24,6 +24,7 @@ use pcap_in::CapReader;
 use pcap_in::laws::fronts_tell;
 use pdml_out::{closing, opening};
 use std::alloc::Global;
+use std::marker::Brand;
 use std::sync::ledger::{Blank, Ledger};
 
 /// Decodes a packet and writes its text as one piece.
@@ -181,8 +182,8 @@ fn write_output<H: Host, A: Answers, L: Ledger>(
     }
 }
 
-/// Opens the output of a name, and writes the packets of a capture to it.
-pub fn write_pdml<H: Host, A: Answers, L: Ledger>(
+/// Opens the output of a name, and writes the packets of a capture to it. Decodings are counted by the blank's ledger.
+fn write_counted<H: Host, A: Answers, L: Ledger>(
     alloc: Global,
     host: &mut H,
     reader: CapReader,
@@ -201,7 +202,8 @@ pub fn write_pdml<H: Host, A: Answers, L: Ledger>(
     requires input { IsSome ((H.inputs host.old).name reader.id.0) }
     requires reach { InReach reader (H.inputs host.old) }
     requires session { A.content answers.old ≡ declared engine.now.db }
-    requires ledger { (blank.name ≡ L.name) × (blank.parts ≡ L.parts) }
+    requires name { blank.name ≡ L.name }
+    requires parts { blank.parts ≡ L.parts }
     requires some { 0 < blank.parts }
     ensures pdml { PdmlIs engine.now.db most name.now result reader
         (H.inputs host.old) (H.inputs host.new) (H.outputs host.old) (H.outputs host.new) }
@@ -220,4 +222,45 @@ pub fn write_pdml<H: Host, A: Answers, L: Ledger>(
     let mut steps = Steps::<L>::begin(blank);
     let mut text = Vec::new(alloc);
     write_output(alloc, host, reader, out, engine, answers, most, &mut steps, &mut text)
+}
+
+/// Opens the output of a name, and writes the packets of a capture to it.
+pub fn write_pdml<H: Host, A: Answers>(
+    alloc: Global,
+    host: &mut H,
+    reader: CapReader,
+    name: &str,
+    engine: &Engine,
+    answers: &mut A,
+    most: u32,
+) -> Status
+    requires ready { IsReady engine.now }
+    requires database { A.database answers.old ≡ engine.now.db }
+    requires number { reader.number ≡ 0 }
+    requires kept { reader.kept ≡ [] }
+    requires reading { IsTrue (is_reading reader.state) }
+    requires usable { IsTrue (is_usable reader.state) }
+    requires input { IsSome ((H.inputs host.old).name reader.id.0) }
+    requires reach { InReach reader (H.inputs host.old) }
+    requires session { A.content answers.old ≡ declared engine.now.db }
+    ensures pdml { PdmlIs engine.now.db most name.now result reader
+        (H.inputs host.old) (H.inputs host.new) (H.outputs host.old) (H.outputs host.new) }
+    ensures inputs { GaveSome reader.id.0 (H.inputs host.old) (H.inputs host.new) }
+    ensures opens { OpensOne name.now (H.outputs host.old).opened (H.outputs host.new).opened
+        (ended result) }
+    ensures files { H.files host.new ≡ H.files host.old }
+    ensures later { NoneFalls (H.faults host.old) (H.faults host.new) }
+    ensures cause { HasOutputCause ((H.inputs host.old).name reader.id.0) name.now
+        (H.faults host.old) (H.faults host.new) result }
+{
+    write_counted::<H, A, Brand>(
+        alloc,
+        host,
+        reader,
+        name,
+        engine,
+        answers,
+        most,
+        Blank::new(1),
+    )
 }

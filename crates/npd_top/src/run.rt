@@ -17,10 +17,7 @@ use crate::totals::{totals_line, totals_of};
 use db_model::NoMemory;
 use npd_host::Host;
 use pcap_in::laws::{fronts_tell, seen_is_read};
-use session::Session;
 use std::alloc::Global;
-use std::marker::Brand;
-use std::sync::ledger::Blank;
 
 /// Loads the database, opens the capture, and writes the PDML, one packet at a time.
 fn run_decode<H: Host>(alloc: Global, host: &mut H, files: &DecodeFiles) -> Status
@@ -42,7 +39,7 @@ fn run_decode<H: Host>(alloc: Global, host: &mut H, files: &DecodeFiles) -> Stat
         Ok(reader) => reader,
         Err(status) => return status,
     };
-    write_pdml::<H, Session, Brand>(
+    write_pdml(
         alloc,
         host,
         reader,
@@ -50,7 +47,6 @@ fn run_decode<H: Host>(alloc: Global, host: &mut H, files: &DecodeFiles) -> Stat
         &decoder.engine,
         &mut decoder.session,
         u32::MAX,
-        Blank::new(1),
     )
 }
 

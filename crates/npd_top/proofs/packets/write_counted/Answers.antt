@@ -1,7 +1,7 @@
 use Rattle.std.proofs.Common.{[]}
 use Rattle.npd_host.proofs.Transfers.{gave_none}
 use Rattle.npd_top.proofs.Outcomes.{named_output, pdml_is}
-use Rattle.npd_top.proofs.packets.write_pdml.Goals as goal
+use Rattle.npd_top.proofs.packets.write_counted.Goals as goal
 
 pub returns-in-Err-clause-inputs : goal.returns-in-Err-clause-inputs
 returns-in-Err-clause-inputs g c = rw c.in-Err.ensures.frame.inputs (record { bytes = []; gave = gave_none c.args.reader.id.0 (g.H.Host.inputs c.args.host.now) })
