@@ -182,12 +182,12 @@ fn write_output<H: Host, A: Answers, L: Ledger>(
     }
 }
 
-/// Opens the output of a name, and writes the packets of a capture to it. Decodings are counted by the blank's ledger.
+/// The same with decodings counted by the blank's ledger, from none on.
 fn write_counted<H: Host, A: Answers, L: Ledger>(
     alloc: Global,
     host: &mut H,
     reader: CapReader,
-    name: &str,
+    out: OutId,
     engine: &Engine,
     answers: &mut A,
     most: u32,
@@ -200,25 +200,24 @@ fn write_counted<H: Host, A: Answers, L: Ledger>(
     requires reading { IsTrue (is_reading reader.state) }
     requires usable { IsTrue (is_usable reader.state) }
     requires input { IsSome ((H.inputs host.old).name reader.id.0) }
+    requires output { IsSome ((H.outputs host.old).name out.0) }
     requires reach { InReach reader (H.inputs host.old) }
     requires session { A.content answers.old ≡ declared engine.now.db }
     requires name { blank.name ≡ L.name }
     requires parts { blank.parts ≡ L.parts }
     requires some { 0 < blank.parts }
-    ensures pdml { PdmlIs engine.now.db most name.now result reader
-        (H.inputs host.old) (H.inputs host.new) (H.outputs host.old) (H.outputs host.new) }
+    ensures output { OutputIs engine.now.db most
+        (Took out.0 (H.outputs host.old) (H.outputs host.new))
+        (TookPart out.0 (H.outputs host.old) (H.outputs host.new))
+        (TookFront out.0 (H.outputs host.old) (H.outputs host.new))
+        result reader (H.inputs host.old) (H.inputs host.new) }
     ensures inputs { GaveSome reader.id.0 (H.inputs host.old) (H.inputs host.new) }
-    ensures opens { OpensOne name.now (H.outputs host.old).opened (H.outputs host.new).opened
-        (ended result) }
+    ensures outputs { TookSome out.0 (H.outputs host.old) (H.outputs host.new) }
     ensures files { H.files host.new ≡ H.files host.old }
     ensures later { NoneFalls (H.faults host.old) (H.faults host.new) }
-    ensures cause { HasOutputCause ((H.inputs host.old).name reader.id.0) name.now
-        (H.faults host.old) (H.faults host.new) result }
+    ensures cause { HasPacketsCause ((H.inputs host.old).name reader.id.0)
+        ((H.outputs host.old).name out.0) (H.faults host.old) (H.faults host.new) result }
 {
-    let out = match host.open_out(name) {
-        Ok(out) => out,
-        Err(fail) => return refused(fail, Status::Open { role: Role::Pdml }),
-    };
     let mut steps = Steps::<L>::begin(blank);
     let mut text = Vec::new(alloc);
     write_output(alloc, host, reader, out, engine, answers, most, &mut steps, &mut text)
@@ -253,11 +252,15 @@ pub fn write_pdml<H: Host, A: Answers>(
     ensures cause { HasOutputCause ((H.inputs host.old).name reader.id.0) name.now
         (H.faults host.old) (H.faults host.new) result }
 {
+    let out = match host.open_out(name) {
+        Ok(out) => out,
+        Err(fail) => return refused(fail, Status::Open { role: Role::Pdml }),
+    };
     write_counted::<H, A, Brand>(
         alloc,
         host,
         reader,
-        name,
+        out,
         engine,
         answers,
         most,
