@@ -61,10 +61,11 @@ cut_of : (name : List ℕ) (file : Option (List ℕ)) (r s t : Inputs) (id : ℕ
     → IfSome file (λ bytes. (given : List ℕ) × GaveOf name r t bytes given × (length given < 24))
 cut_of name None r s t id opens read = tt
 cut_of name (Some bytes) r s t id opens read =
-    let parts = front_of (s.held id) bytes (t.held id) read.bytes opens.holds read.gave.front in
-    (read.bytes,
-    record { id = id; rest = parts.0; fresh = opens.fresh; named = ap (λ (f : ℕ → Option (List ℕ)). f id) read.gave.names ∙ opens.named; holds = parts.1; parts = parts.2 },
-    read.taken)
+    let parts = front_of (s.held id) bytes (t.held id) read.bytes opens.holds read.gave.front in (
+      read.bytes,
+      record { id = id; rest = parts.0; fresh = opens.fresh; named = ap (λ (f : ℕ → Option (List ℕ)). f id) read.gave.names ∙ opens.named; holds = parts.1; parts = parts.2 },
+      read.taken,
+    )
 
 broken_of : (file : Option (List ℕ)) (held : Option (List ℕ)) (t : Inputs) (offset code : ℕ) → held ≡ file → IfSome held (λ bytes. Begins (Err (fail.Broken offset code)) bytes t) → IfSome file (λ bytes. header bytes ≡ Err (Broken offset code))
 broken_of None held t offset code e begins = tt

@@ -128,18 +128,19 @@ module _ (rests : Rests) (db : model.Database) (name : List ℕ) (file : Option 
     cut_of Without bytes behind is =
         let all = behind.head ++ is.given in
         let parts = front_of (now.held reader.id.0) behind.rest (new.held reader.id.0) is.given behind.holds is.gave.front in
-        let stands = rests.header reader.form behind.head is.given behind.long behind.form in
-        (all,
-        record {
-          id = reader.id.0;
-          rest = parts.0;
-          fresh = keeps reader.id.0 opens.fresh;
-          named = ap (λ (f : ℕ → Option (List ℕ)). f reader.id.0) is.gave.names ∙ opens.named;
-          holds = parts.1;
-          parts = behind.parts ∙ ap (λ (l : List ℕ). behind.head ++ l) parts.2 ∙ sym (append_assoc behind.head is.given parts.0);
-        },
-        with_header all reader.form Without (T (open_text Pdml db (capture.cap all).packets)) stands.0
-        (subst (λ (s : capture.Seen). T (open_text Pdml db s.packets)) (sym stands.1) is.text))
+        let stands = rests.header reader.form behind.head is.given behind.long behind.form in (
+          all,
+          record {
+            id = reader.id.0;
+            rest = parts.0;
+            fresh = keeps reader.id.0 opens.fresh;
+            named = ap (λ (f : ℕ → Option (List ℕ)). f reader.id.0) is.gave.names ∙ opens.named;
+            holds = parts.1;
+            parts = behind.parts ∙ ap (λ (l : List ℕ). behind.head ++ l) parts.2 ∙ sym (append_assoc behind.head is.given parts.0);
+          },
+          with_header all reader.form Without (T (open_text Pdml db (capture.cap all).packets)) stands.0
+              (subst (λ (s : capture.Seen). T (open_text Pdml db s.packets)) (sym stands.1) is.text),
+        )
 
 -- what a status says whose run came behind the header of the capture
 pub says_decoded : Rests → (status : Status) (files : DecodeFiles) (before after : Outside) (mid now : Inputs) (db : model.Database) (reader : Reader) → IfSome (before.files files.db) (λ text. IsAccepted text db × (is_served db ≡ true))
@@ -151,9 +152,11 @@ says_decoded rests Done files before after mid now db reader database opens keep
     (Wrote before.outputs after.outputs files.pdml) (WrotePart before.outputs after.outputs files.pdml) (WroteFront before.outputs after.outputs files.pdml) bytes behind is) opens.behind)
 says_decoded rests (Open Db) files before after mid now db reader database opens keeps is = absurd is
 says_decoded rests (Open Cap) files before after mid now db reader database opens keeps is = absurd is
-says_decoded rests (Open Pdml) files before after mid now db reader database opens keeps is =
-    (is, finds_of (before.files files.db) (before.files files.cap) db (λ db bytes. IsHeader (capture.header bytes)) database
-    (told_map (before.files files.cap) (IsBehindHeader reader now) (λ bytes. IsHeader (capture.header bytes)) (λ bytes behind. header_so bytes reader.form behind.header_is) opens.behind))
+says_decoded rests (Open Pdml) files before after mid now db reader database opens keeps is = (
+  is,
+  finds_of (before.files files.db) (before.files files.cap) db (λ db bytes. IsHeader (capture.header bytes)) database
+      (told_map (before.files files.cap) (IsBehindHeader reader now) (λ bytes. IsHeader (capture.header bytes)) (λ bytes behind. header_so bytes reader.form behind.header_is) opens.behind),
+)
 says_decoded rests (Open Out) files before after mid now db reader database opens keeps is = absurd is
 says_decoded rests (Read Db) files before after mid now db reader database opens keeps is = absurd is
 says_decoded rests (Read Cap) files before after mid now db reader database opens keeps is =
@@ -167,10 +170,11 @@ says_decoded rests (Write Db) files before after mid now db reader database open
 says_decoded rests (Write Cap) files before after mid now db reader database opens keeps is = absurd is
 says_decoded rests (Write Pdml) files before after mid now db reader database opens keeps is =
     finds_of (before.files files.db) (before.files files.cap) db (HasProperFront files before after) database
-    (told_map (before.files files.cap) (IsBehindHeader reader now) (HasProperFront files before after db) (λ bytes behind.
-    (header_so bytes reader.form behind.header_is,
-    part_of rests db files.cap (before.files files.cap) before.inputs mid now after.inputs reader opens keeps 4294967295 (omega arith)
-    (Wrote before.outputs after.outputs files.pdml) (WrotePart before.outputs after.outputs files.pdml) (WroteFront before.outputs after.outputs files.pdml) bytes behind is)) opens.behind)
+    (told_map (before.files files.cap) (IsBehindHeader reader now) (HasProperFront files before after db) (λ bytes behind. (
+      header_so bytes reader.form behind.header_is,
+      part_of rests db files.cap (before.files files.cap) before.inputs mid now after.inputs reader opens keeps 4294967295 (omega arith)
+          (Wrote before.outputs after.outputs files.pdml) (WrotePart before.outputs after.outputs files.pdml) (WroteFront before.outputs after.outputs files.pdml) bytes behind is,
+    )) opens.behind)
 says_decoded rests (Write Out) files before after mid now db reader database opens keeps is = absurd is
 says_decoded rests (Database line code) files before after mid now db reader database opens keeps is = absurd is
 says_decoded rests (Capture offset code) files before after mid now db reader database opens keeps is =
@@ -182,10 +186,11 @@ says_decoded rests (Capture offset code) files before after mid now db reader da
 says_decoded rests NoMemory files before after mid now db reader database opens keeps is =
     ⊎_elim (λ same. inl same)
     (λ front. inr (finds_of (before.files files.db) (before.files files.cap) db (HasFront files before after) database
-    (told_map (before.files files.cap) (IsBehindHeader reader now) (HasFront files before after db) (λ bytes behind.
-    (header_so bytes reader.form behind.header_is,
-    some_of rests db files.cap (before.files files.cap) before.inputs mid now after.inputs reader opens keeps 4294967295 (omega arith)
-    (Wrote before.outputs after.outputs files.pdml) (WrotePart before.outputs after.outputs files.pdml) (WroteFront before.outputs after.outputs files.pdml) bytes behind front)) opens.behind))) is
+    (told_map (before.files files.cap) (IsBehindHeader reader now) (HasFront files before after db) (λ bytes behind. (
+      header_so bytes reader.form behind.header_is,
+      some_of rests db files.cap (before.files files.cap) before.inputs mid now after.inputs reader opens keeps 4294967295 (omega arith)
+          (Wrote before.outputs after.outputs files.pdml) (WrotePart before.outputs after.outputs files.pdml) (WroteFront before.outputs after.outputs files.pdml) bytes behind front,
+    )) opens.behind))) is
 says_decoded rests (Unbuilt part.Words) files before after mid now db reader database opens keeps is = absurd is
 says_decoded rests (Unbuilt part.Database) files before after mid now db reader database opens keeps is = absurd is
 says_decoded rests (Unbuilt part.Capture) files before after mid now db reader database opens keeps is =
@@ -220,19 +225,21 @@ says_unopened rests (Read Db) files before after mid faults db database opens ke
 says_unopened rests (Read Cap) files before after mid faults db database opens keeps same cause =
     finds_of (before.files files.db) (before.files files.cap) db (IsCut files before after) database
     (told_map (before.files files.cap) (λ bytes. (given : List ℕ) × GaveOf files.cap mid after.inputs bytes given × (length given < 24)) (IsCut files before after db) (λ bytes took.
-    let gave = took.1 in
-    (took.0,
-    record { id = gave.id; rest = gave.rest; fresh = keeps gave.id gave.fresh; named = gave.named; holds = gave.holds; parts = gave.parts },
-    without_header took.0 (capture.Broken 0 1) (WroteNothing before after) (Wrote before.outputs after.outputs files.pdml (open_text Pdml db (capture.cap took.0).packets)) (short_header took.0 took.2) same)) opens)
+    let gave = took.1 in (
+      took.0,
+      record { id = gave.id; rest = gave.rest; fresh = keeps gave.id gave.fresh; named = gave.named; holds = gave.holds; parts = gave.parts },
+      without_header took.0 (capture.Broken 0 1) (WroteNothing before after) (Wrote before.outputs after.outputs files.pdml (open_text Pdml db (capture.cap took.0).packets)) (short_header took.0 took.2) same,
+    )) opens)
 says_unopened rests (Read Pdml) files before after mid faults db database opens keeps same cause = absurd cause
 says_unopened rests (Read Out) files before after mid faults db database opens keeps same cause = absurd cause
 says_unopened rests (Write role) files before after mid faults db database opens keeps same cause = absurd cause
 says_unopened rests (Database line code) files before after mid faults db database opens keeps same cause = absurd cause
 says_unopened rests (Capture offset code) files before after mid faults db database opens keeps same cause =
     finds_of (before.files files.db) (before.files files.cap) db (IsBroken files before after offset code) database
-    (told_map (before.files files.cap) (λ bytes. capture.header bytes ≡ Err (capture.Broken offset code)) (IsBroken files before after offset code db) (λ bytes e.
-    (no_header rests bytes 4294967295 offset code (omega arith) e,
-    without_header bytes (capture.Broken offset code) (WroteNothing before after) (Wrote before.outputs after.outputs files.pdml (whole_text Pdml db (capture.seen bytes 4294967295).packets)) e same)) opens)
+    (told_map (before.files files.cap) (λ bytes. capture.header bytes ≡ Err (capture.Broken offset code)) (IsBroken files before after offset code db) (λ bytes e. (
+      no_header rests bytes 4294967295 offset code (omega arith) e,
+      without_header bytes (capture.Broken offset code) (WroteNothing before after) (Wrote before.outputs after.outputs files.pdml (whole_text Pdml db (capture.seen bytes 4294967295).packets)) e same,
+    )) opens)
 says_unopened rests NoMemory files before after mid faults db database opens keeps same cause = inl same
 says_unopened rests (Unbuilt which) files before after mid faults db database opens keeps same cause = absurd cause
 

@@ -75,10 +75,11 @@ unfolding text_from
 texts_later role db ps k zero = ([], ap (texts role db ps) (let e : k + zero ≡ k = omega arith in e) ∙ sym (append-nil (texts role db ps k)))
 texts_later role db ps k (suc more) =
     let rest = texts_later role db ps k more in
-    let text = text_from role db (slice_get ps (k + more)) (state db (declared db) ps (k + more)) in
-    (rest.0 ++ text,
-    ap (texts role db ps) (let e : k + suc more ≡ suc (k + more) = omega arith in e)
-    ∙ step (texts role db ps (k + more)) (texts role db ps k) rest.0 text rest.1)
+    let text = text_from role db (slice_get ps (k + more)) (state db (declared db) ps (k + more)) in (
+      rest.0 ++ text,
+      ap (texts role db ps) (let e : k + suc more ≡ suc (k + more) = omega arith in e)
+          ∙ step (texts role db ps (k + more)) (texts role db ps k) rest.0 text rest.1,
+    )
   where
     step : (all first later text : List ℕ) → all ≡ first ++ later → all ++ text ≡ first ++ (later ++ text)
     step all first later text e = ap (λ (l : List ℕ). l ++ text) e ∙ append_assoc first later text

@@ -131,7 +131,16 @@ fn write_packets<H: Host, A: Answers, L: Ledger>(
     fronts_tell();
     write_piece(host, out, opening())?;
     for _count in 0..most {
-        if let Some(status) = pass_packet(alloc, host, &mut reader, out, engine, answers, steps, text)? {
+        if let Some(status) = pass_packet(
+            alloc,
+            host,
+            &mut reader,
+            out,
+            engine,
+            answers,
+            steps,
+            text,
+        )? {
             return Ok(status);
         }
     }
@@ -220,7 +229,9 @@ fn write_counted<H: Host, A: Answers, L: Ledger>(
 {
     let mut steps = Steps::<L>::begin(blank);
     let mut text = Vec::new(alloc);
-    write_output(alloc, host, reader, out, engine, answers, most, &mut steps, &mut text)
+    write_output(
+        alloc, host, reader, out, engine, answers, most, &mut steps, &mut text,
+    )
 }
 
 /// Opens the output of a name, and writes the packets of a capture to it.
