@@ -1,6 +1,7 @@
 ghost use Rattle.std.specs.Prelude.{◌≡◌, ◌<◌, true, slice_get, map, [], IfOk};
 ghost use Rattle.db_model.specs.Expression;
-ghost use Rattle.db_model.specs.Expression.{val, keys_from};
+ghost use Rattle.db_model.specs.Expression.{val, value, keys_from};
+ghost use Rattle.db_model.specs.declared.expression.Expr.TheOpen as layer;
 ghost use Rattle.db_model.specs.Fitting.{keys_fit};
 ghost use Rattle.db_model.specs.Names.{table_at};
 ghost use Rattle.db_model.specs.Numbering.{names_of_protocol};
@@ -12,7 +13,9 @@ use crate::fields::is_present;
 use crate::operand::Operand;
 use crate::tables::look;
 use crate::{EvalEnd, operators, reads};
-use db_model::{Answers, CheckedDb, Env, Expr, KeyDecl, Keys, Name, Reason, STAMP_END, Value};
+use db_model::{
+    Answers, Bytes, CheckedDb, Env, Expr, KeyDecl, Keys, Name, Operator, Reason, STAMP_END, Value,
+};
 use std::alloc::Global;
 
 /// Evaluates an expression in the protocol of this number. A protocol that isn't declared has no fields.
@@ -65,52 +68,29 @@ fn evaluate<A: Answers>(
             let present = env.present.as_slice();
             Ok(Operand::of_truth(is_present(db, protocol, name.as_slice(), present)))
         }
-        Expr::Not(x) => {
-            let x = evaluate(alloc, x.get(), db, protocol, env, answers)?;
-            Ok(Operand::of_truth(!x.is_so()))
-        }
-        Expr::And(x, y) => {
-            let x = evaluate(alloc, x.get(), db, protocol, env, answers)?;
-            if !x.is_so() {
-                return Ok(Operand::of_number(0));
-            }
-            let y = evaluate(alloc, y.get(), db, protocol, env, answers)?;
-            Ok(Operand::of_truth(y.is_so()))
-        }
-        Expr::Or(x, y) => {
-            let x = evaluate(alloc, x.get(), db, protocol, env, answers)?;
-            if x.is_so() {
-                return Ok(Operand::of_number(1));
-            }
-            let y = evaluate(alloc, y.get(), db, protocol, env, answers)?;
-            Ok(Operand::of_truth(y.is_so()))
-        }
+        Expr::Not(x) => negation(alloc, x.get(), db, protocol, env, answers),
+        Expr::And(x, y) => conjunction(alloc, x.get(), y.get(), db, protocol, env, answers),
+        Expr::Or(x, y) => disjunction(alloc, x.get(), y.get(), db, protocol, env, answers),
         Expr::Binary(op, x, y) => {
-            let x = evaluate(alloc, x.get(), db, protocol, env, answers)?;
-            let y = evaluate(alloc, y.get(), db, protocol, env, answers)?;
-            operators::binary(*op, &x, &y, &env.packet.bytes)
+            operation(alloc, *op, x.get(), y.get(), db, protocol, env, answers)
         }
-        Expr::Slice { base, from, count } => {
-            let base = evaluate(alloc, base.get(), db, protocol, env, answers)?;
-            let from = evaluate(alloc, from.get(), db, protocol, env, answers)?;
-            let count = evaluate(alloc, count.get(), db, protocol, env, answers)?;
-            operators::slice(alloc, &base, &from, &count, &env.packet.bytes)
-        }
-        Expr::ToNumber(x) => {
-            let x = evaluate(alloc, x.get(), db, protocol, env, answers)?;
-            operators::to_number(&x, &env.packet.bytes)
-        }
-        Expr::LengthOf(x) => {
-            let x = evaluate(alloc, x.get(), db, protocol, env, answers)?;
-            Ok(operators::length_of(&x, &env.packet.bytes))
-        }
+        Expr::Slice { base, from, count } => slice(
+            alloc,
+            base.get(),
+            from.get(),
+            count.get(),
+            db,
+            protocol,
+            env,
+            answers,
+        ),
+        Expr::ToNumber(x) => to_number(alloc, x.get(), db, protocol, env, answers),
+        Expr::LengthOf(x) => length_of(alloc, x.get(), db, protocol, env, answers),
         Expr::ToBytes { value, size } => {
-            let x = evaluate(alloc, value.get(), db, protocol, env, answers)?;
-            operators::to_bytes(alloc, &x, *size)
+            to_bytes(alloc, value.get(), *size, db, protocol, env, answers)
         }
         Expr::HasText { within, text } => {
-            let x = evaluate(alloc, within.get(), db, protocol, env, answers)?;
-            Ok(operators::has_text(&x, text, &env.packet.bytes))
+            has_text(alloc, within.get(), text, db, protocol, env, answers)
         }
         Expr::LookUp { table, renew, keys } => look_up(
             alloc,
@@ -123,6 +103,198 @@ fn evaluate<A: Answers>(
             answers,
         ),
     }
+}
+
+/// The negation of what a part gives. Each form with parts has a function of its own, as a function sets the room of
+/// all its values to zero at its entry. The same for those below.
+#[cycle(parts)]
+fn negation<A: Answers>(
+    alloc: Global,
+    x: &Expr,
+    db: &CheckedDb,
+    protocol: u16,
+    env: &mut Env,
+    answers: &mut A,
+) -> Result<Operand, EvalEnd>
+    requires database { A.database answers.old ≡ db.now }
+    requires time { env.old.packet.stamp < STAMP_END }
+    ensures database { A.database answers.new ≡ A.database answers.old }
+    ensures packet { env.new.packet ≡ env.old.packet }
+    ensures value { Evaluates db.now (value db.now (names_of_protocol db.now protocol) (layer.Not (val db.now (names_of_protocol db.now protocol) x.now))) shown (point env.old (A.content answers.old) (A.told answers.old)) result (point env.new (A.content answers.new) (A.told answers.new)) }
+{
+    let x = evaluate(alloc, x, db, protocol, env, answers)?;
+    Ok(Operand::of_truth(!x.is_so()))
+}
+
+#[cycle(parts)]
+fn conjunction<A: Answers>(
+    alloc: Global,
+    x: &Expr,
+    y: &Expr,
+    db: &CheckedDb,
+    protocol: u16,
+    env: &mut Env,
+    answers: &mut A,
+) -> Result<Operand, EvalEnd>
+    requires database { A.database answers.old ≡ db.now }
+    requires time { env.old.packet.stamp < STAMP_END }
+    ensures database { A.database answers.new ≡ A.database answers.old }
+    ensures packet { env.new.packet ≡ env.old.packet }
+    ensures value { Evaluates db.now (value db.now (names_of_protocol db.now protocol) (layer.And (val db.now (names_of_protocol db.now protocol) x.now) (val db.now (names_of_protocol db.now protocol) y.now))) shown (point env.old (A.content answers.old) (A.told answers.old)) result (point env.new (A.content answers.new) (A.told answers.new)) }
+{
+    let x = evaluate(alloc, x, db, protocol, env, answers)?;
+    if !x.is_so() {
+        return Ok(Operand::of_number(0));
+    }
+    let y = evaluate(alloc, y, db, protocol, env, answers)?;
+    Ok(Operand::of_truth(y.is_so()))
+}
+
+#[cycle(parts)]
+fn disjunction<A: Answers>(
+    alloc: Global,
+    x: &Expr,
+    y: &Expr,
+    db: &CheckedDb,
+    protocol: u16,
+    env: &mut Env,
+    answers: &mut A,
+) -> Result<Operand, EvalEnd>
+    requires database { A.database answers.old ≡ db.now }
+    requires time { env.old.packet.stamp < STAMP_END }
+    ensures database { A.database answers.new ≡ A.database answers.old }
+    ensures packet { env.new.packet ≡ env.old.packet }
+    ensures value { Evaluates db.now (value db.now (names_of_protocol db.now protocol) (layer.Or (val db.now (names_of_protocol db.now protocol) x.now) (val db.now (names_of_protocol db.now protocol) y.now))) shown (point env.old (A.content answers.old) (A.told answers.old)) result (point env.new (A.content answers.new) (A.told answers.new)) }
+{
+    let x = evaluate(alloc, x, db, protocol, env, answers)?;
+    if x.is_so() {
+        return Ok(Operand::of_number(1));
+    }
+    let y = evaluate(alloc, y, db, protocol, env, answers)?;
+    Ok(Operand::of_truth(y.is_so()))
+}
+
+#[cycle(parts)]
+fn operation<A: Answers>(
+    alloc: Global,
+    op: Operator,
+    x: &Expr,
+    y: &Expr,
+    db: &CheckedDb,
+    protocol: u16,
+    env: &mut Env,
+    answers: &mut A,
+) -> Result<Operand, EvalEnd>
+    requires database { A.database answers.old ≡ db.now }
+    requires time { env.old.packet.stamp < STAMP_END }
+    ensures database { A.database answers.new ≡ A.database answers.old }
+    ensures packet { env.new.packet ≡ env.old.packet }
+    ensures value { Evaluates db.now (value db.now (names_of_protocol db.now protocol) (layer.Binary op (val db.now (names_of_protocol db.now protocol) x.now) (val db.now (names_of_protocol db.now protocol) y.now))) shown (point env.old (A.content answers.old) (A.told answers.old)) result (point env.new (A.content answers.new) (A.told answers.new)) }
+{
+    let x = evaluate(alloc, x, db, protocol, env, answers)?;
+    let y = evaluate(alloc, y, db, protocol, env, answers)?;
+    operators::binary(op, &x, &y, &env.packet.bytes)
+}
+
+#[cycle(parts)]
+fn slice<A: Answers>(
+    alloc: Global,
+    base: &Expr,
+    from: &Expr,
+    count: &Expr,
+    db: &CheckedDb,
+    protocol: u16,
+    env: &mut Env,
+    answers: &mut A,
+) -> Result<Operand, EvalEnd>
+    requires database { A.database answers.old ≡ db.now }
+    requires time { env.old.packet.stamp < STAMP_END }
+    ensures database { A.database answers.new ≡ A.database answers.old }
+    ensures packet { env.new.packet ≡ env.old.packet }
+    ensures value { Evaluates db.now (value db.now (names_of_protocol db.now protocol) (layer.Slice (val db.now (names_of_protocol db.now protocol) base.now) (val db.now (names_of_protocol db.now protocol) from.now) (val db.now (names_of_protocol db.now protocol) count.now))) shown (point env.old (A.content answers.old) (A.told answers.old)) result (point env.new (A.content answers.new) (A.told answers.new)) }
+{
+    let base = evaluate(alloc, base, db, protocol, env, answers)?;
+    let from = evaluate(alloc, from, db, protocol, env, answers)?;
+    let count = evaluate(alloc, count, db, protocol, env, answers)?;
+    operators::slice(alloc, &base, &from, &count, &env.packet.bytes)
+}
+
+#[cycle(parts)]
+fn to_number<A: Answers>(
+    alloc: Global,
+    x: &Expr,
+    db: &CheckedDb,
+    protocol: u16,
+    env: &mut Env,
+    answers: &mut A,
+) -> Result<Operand, EvalEnd>
+    requires database { A.database answers.old ≡ db.now }
+    requires time { env.old.packet.stamp < STAMP_END }
+    ensures database { A.database answers.new ≡ A.database answers.old }
+    ensures packet { env.new.packet ≡ env.old.packet }
+    ensures value { Evaluates db.now (value db.now (names_of_protocol db.now protocol) (layer.ToNumber (val db.now (names_of_protocol db.now protocol) x.now))) shown (point env.old (A.content answers.old) (A.told answers.old)) result (point env.new (A.content answers.new) (A.told answers.new)) }
+{
+    let x = evaluate(alloc, x, db, protocol, env, answers)?;
+    operators::to_number(&x, &env.packet.bytes)
+}
+
+#[cycle(parts)]
+fn length_of<A: Answers>(
+    alloc: Global,
+    x: &Expr,
+    db: &CheckedDb,
+    protocol: u16,
+    env: &mut Env,
+    answers: &mut A,
+) -> Result<Operand, EvalEnd>
+    requires database { A.database answers.old ≡ db.now }
+    requires time { env.old.packet.stamp < STAMP_END }
+    ensures database { A.database answers.new ≡ A.database answers.old }
+    ensures packet { env.new.packet ≡ env.old.packet }
+    ensures value { Evaluates db.now (value db.now (names_of_protocol db.now protocol) (layer.LengthOf (val db.now (names_of_protocol db.now protocol) x.now))) shown (point env.old (A.content answers.old) (A.told answers.old)) result (point env.new (A.content answers.new) (A.told answers.new)) }
+{
+    let x = evaluate(alloc, x, db, protocol, env, answers)?;
+    Ok(operators::length_of(&x, &env.packet.bytes))
+}
+
+#[cycle(parts)]
+fn to_bytes<A: Answers>(
+    alloc: Global,
+    x: &Expr,
+    size: u32,
+    db: &CheckedDb,
+    protocol: u16,
+    env: &mut Env,
+    answers: &mut A,
+) -> Result<Operand, EvalEnd>
+    requires database { A.database answers.old ≡ db.now }
+    requires time { env.old.packet.stamp < STAMP_END }
+    ensures database { A.database answers.new ≡ A.database answers.old }
+    ensures packet { env.new.packet ≡ env.old.packet }
+    ensures value { Evaluates db.now (value db.now (names_of_protocol db.now protocol) (layer.ToBytes (val db.now (names_of_protocol db.now protocol) x.now) size)) shown (point env.old (A.content answers.old) (A.told answers.old)) result (point env.new (A.content answers.new) (A.told answers.new)) }
+{
+    let x = evaluate(alloc, x, db, protocol, env, answers)?;
+    operators::to_bytes(alloc, &x, size)
+}
+
+#[cycle(parts)]
+fn has_text<A: Answers>(
+    alloc: Global,
+    x: &Expr,
+    text: &Bytes,
+    db: &CheckedDb,
+    protocol: u16,
+    env: &mut Env,
+    answers: &mut A,
+) -> Result<Operand, EvalEnd>
+    requires database { A.database answers.old ≡ db.now }
+    requires time { env.old.packet.stamp < STAMP_END }
+    ensures database { A.database answers.new ≡ A.database answers.old }
+    ensures packet { env.new.packet ≡ env.old.packet }
+    ensures value { Evaluates db.now (value db.now (names_of_protocol db.now protocol) (layer.HasText (val db.now (names_of_protocol db.now protocol) x.now) text.now)) shown (point env.old (A.content answers.old) (A.told answers.old)) result (point env.new (A.content answers.new) (A.told answers.new)) }
+{
+    let x = evaluate(alloc, x, db, protocol, env, answers)?;
+    Ok(operators::has_text(&x, text, &env.packet.bytes))
 }
 
 /// A look-up in the table of this name: its keys, and then one question. A table that isn't declared has

@@ -20,175 +20,59 @@ use Rattle.expr_eval.proofs.Forms.{not_is, and_is, or_is, binary_is, slice_is, t
 use Rattle.expr_eval.proofs.Steps.{same, same_as, recast, gives, refused, then_ok, then_err, then_so, then_not, finish_1, finish_2, finish_3, own_is, Keys_so_far, no_keys_yet, key_unevaluated, key_unmade, key_made, keys_end, keys_fitted, key_missing, keys_then, look_is_fit, drop_some, drop_past, drop_beyond, drop_leaves, drop_all, drop_at, keys_at}
 use Rattle.expr_eval.proofs.evaluation.+parts.Goals as goal
 
-pub evaluate-returns-in_err-x-in-Not-clause-value : goal.evaluate-returns-in_err-x-in-Not-clause-value
-evaluate-returns-in_err-x-in-Not-clause-value g t c =
+pub evaluate-returns-in-Not-clause-value : goal.evaluate-returns-in-Not-clause-value
+evaluate-returns-in-Not-clause-value g t c =
     let db = c.args.db.now in
     let names = names_of_protocol db c.args.protocol in
-    let r : c.from_residual.result ≡ Err c.in_err-x-in-Not.field-0.0 = search rules in
-    recast db r (same_as db (not_is db names c.args.e.now c.in-Not.x c.get.result.now c.in-Not.is c.get.ensures) (then_err db _ c.in_err-x-in-Not.field-0.0 c.in_err-x-in-Not.ensures.value))
+    same_as db (not_is db names c.args.e.now c.in-Not.x c.get.result.now c.in-Not.is c.get.ensures) c.negation.ensures.value
 
-pub evaluate-returns-in_err-x-in-ToNumber-clause-value : goal.evaluate-returns-in_err-x-in-ToNumber-clause-value
-evaluate-returns-in_err-x-in-ToNumber-clause-value g t c =
+pub evaluate-returns-in-And-clause-value : goal.evaluate-returns-in-And-clause-value
+evaluate-returns-in-And-clause-value g t c =
     let db = c.args.db.now in
     let names = names_of_protocol db c.args.protocol in
-    let r : c.from_residual-in_err-x-in-ToNumber.result ≡ Err c.in_err-x-in-ToNumber.field-0.0 = search rules in
-    recast db r (same_as db (to_number_is db names c.args.e.now c.in-ToNumber.x c.get-in-ToNumber.result.now c.in-ToNumber.is c.get-in-ToNumber.ensures) (then_err db _ c.in_err-x-in-ToNumber.field-0.0 c.in_err-x-in-ToNumber.ensures.value))
+    same_as db (and_is db names c.args.e.now c.in-And.x c.in-And.y c.get-in-And.result.now c.get-in-And-2.result.now c.in-And.is c.get-in-And.ensures c.get-in-And-2.ensures) c.conjunction.ensures.value
 
-pub evaluate-returns-in_err-x-in-LengthOf-clause-value : goal.evaluate-returns-in_err-x-in-LengthOf-clause-value
-evaluate-returns-in_err-x-in-LengthOf-clause-value g t c =
+pub evaluate-returns-in-Or-clause-value : goal.evaluate-returns-in-Or-clause-value
+evaluate-returns-in-Or-clause-value g t c =
     let db = c.args.db.now in
     let names = names_of_protocol db c.args.protocol in
-    let r : c.from_residual-in_err-x-in-LengthOf.result ≡ Err c.in_err-x-in-LengthOf.field-0.0 = search rules in
-    recast db r (same_as db (length_is db names c.args.e.now c.in-LengthOf.x c.get-in-LengthOf.result.now c.in-LengthOf.is c.get-in-LengthOf.ensures) (then_err db _ c.in_err-x-in-LengthOf.field-0.0 c.in_err-x-in-LengthOf.ensures.value))
+    same_as db (or_is db names c.args.e.now c.in-Or.x c.in-Or.y c.get-in-Or.result.now c.get-in-Or-2.result.now c.in-Or.is c.get-in-Or.ensures c.get-in-Or-2.ensures) c.disjunction.ensures.value
 
-pub evaluate-returns-in_err-x-in-ToBytes-clause-value : goal.evaluate-returns-in_err-x-in-ToBytes-clause-value
-evaluate-returns-in_err-x-in-ToBytes-clause-value g t c =
+pub evaluate-returns-in-Binary-clause-value : goal.evaluate-returns-in-Binary-clause-value
+evaluate-returns-in-Binary-clause-value g t c =
     let db = c.args.db.now in
     let names = names_of_protocol db c.args.protocol in
-    let r : c.from_residual-in_err-x-in-ToBytes.result ≡ Err c.in_err-x-in-ToBytes.field-0.0 = search rules in
-    recast db r (same_as db (to_bytes_is db names c.args.e.now c.in-ToBytes.value c.get-in-ToBytes.result.now c.in-ToBytes.size c.in-ToBytes.is c.get-in-ToBytes.ensures) (then_err db _ c.in_err-x-in-ToBytes.field-0.0 c.in_err-x-in-ToBytes.ensures.value))
+    same_as db (binary_is db names c.args.e.now c.in-Binary.x c.in-Binary.y c.get-in-Binary.result.now c.get-in-Binary-2.result.now c.in-Binary.op c.in-Binary.is c.get-in-Binary.ensures c.get-in-Binary-2.ensures) c.operation.ensures.value
 
-pub evaluate-returns-in_err-x-in-HasText-clause-value : goal.evaluate-returns-in_err-x-in-HasText-clause-value
-evaluate-returns-in_err-x-in-HasText-clause-value g t c =
+pub evaluate-returns-in-Slice-clause-value : goal.evaluate-returns-in-Slice-clause-value
+evaluate-returns-in-Slice-clause-value g t c =
     let db = c.args.db.now in
     let names = names_of_protocol db c.args.protocol in
-    let r : c.from_residual-in_err-x-in-HasText.result ≡ Err c.in_err-x-in-HasText.field-0.0 = search rules in
-    recast db r (same_as db (has_text_is db names c.args.e.now c.in-HasText.within c.get-in-HasText.result.now c.in-HasText.text c.in-HasText.is c.get-in-HasText.ensures) (then_err db _ c.in_err-x-in-HasText.field-0.0 c.in_err-x-in-HasText.ensures.value))
+    same_as db (slice_is db names c.args.e.now c.in-Slice.base c.in-Slice.from c.in-Slice.count c.get-in-Slice.result.now c.get-in-Slice-2.result.now c.get-in-Slice-3.result.now c.in-Slice.is c.get-in-Slice.ensures c.get-in-Slice-2.ensures c.get-in-Slice-3.ensures) c.slice.ensures.value
 
-pub evaluate-returns-in_err-x-in-And-clause-value : goal.evaluate-returns-in_err-x-in-And-clause-value
-evaluate-returns-in_err-x-in-And-clause-value g t c =
+pub evaluate-returns-in-ToNumber-clause-value : goal.evaluate-returns-in-ToNumber-clause-value
+evaluate-returns-in-ToNumber-clause-value g t c =
     let db = c.args.db.now in
     let names = names_of_protocol db c.args.protocol in
-    let r : c.from_residual-in_err-x-in-And.result ≡ Err c.in_err-x-in-And.field-0.0 = search rules in
-    recast db r (same_as db (and_is db names c.args.e.now c.in-And.x c.in-And.y c.get-in-And.result.now c.in-And.y c.in-And.is c.get-in-And.ensures refl) (then_err db _ c.in_err-x-in-And.field-0.0 c.in_err-x-in-And.ensures.value))
+    same_as db (to_number_is db names c.args.e.now c.in-ToNumber.x c.get-in-ToNumber.result.now c.in-ToNumber.is c.get-in-ToNumber.ensures) c.to_number.ensures.value
 
-pub evaluate-returns-in_err-x-in-Or-clause-value : goal.evaluate-returns-in_err-x-in-Or-clause-value
-evaluate-returns-in_err-x-in-Or-clause-value g t c =
+pub evaluate-returns-in-LengthOf-clause-value : goal.evaluate-returns-in-LengthOf-clause-value
+evaluate-returns-in-LengthOf-clause-value g t c =
     let db = c.args.db.now in
     let names = names_of_protocol db c.args.protocol in
-    let r : c.from_residual-in_err-x-in-Or.result ≡ Err c.in_err-x-in-Or.field-0.0 = search rules in
-    recast db r (same_as db (or_is db names c.args.e.now c.in-Or.x c.in-Or.y c.get-in-Or.result.now c.in-Or.y c.in-Or.is c.get-in-Or.ensures refl) (then_err db _ c.in_err-x-in-Or.field-0.0 c.in_err-x-in-Or.ensures.value))
+    same_as db (length_is db names c.args.e.now c.in-LengthOf.x c.get-in-LengthOf.result.now c.in-LengthOf.is c.get-in-LengthOf.ensures) c.length_of.ensures.value
 
-pub evaluate-returns-in_err-x-in-Binary-clause-value : goal.evaluate-returns-in_err-x-in-Binary-clause-value
-evaluate-returns-in_err-x-in-Binary-clause-value g t c =
+pub evaluate-returns-in-ToBytes-clause-value : goal.evaluate-returns-in-ToBytes-clause-value
+evaluate-returns-in-ToBytes-clause-value g t c =
     let db = c.args.db.now in
     let names = names_of_protocol db c.args.protocol in
-    let r : c.from_residual-in_err-x-in-Binary.result ≡ Err c.in_err-x-in-Binary.field-0.0 = search rules in
-    recast db r (same_as db (binary_is db names c.args.e.now c.in-Binary.x c.in-Binary.y c.get-in-Binary.result.now c.in-Binary.y c.in-Binary.op c.in-Binary.is c.get-in-Binary.ensures refl) (then_err db _ c.in_err-x-in-Binary.field-0.0 c.in_err-x-in-Binary.ensures.value))
+    same_as db (to_bytes_is db names c.args.e.now c.in-ToBytes.value c.get-in-ToBytes.result.now c.in-ToBytes.size c.in-ToBytes.is c.get-in-ToBytes.ensures) c.to_bytes.ensures.value
 
-pub evaluate-returns-in_err-y-in-Binary-clause-value : goal.evaluate-returns-in_err-y-in-Binary-clause-value
-evaluate-returns-in_err-y-in-Binary-clause-value g t c =
+pub evaluate-returns-in-HasText-clause-value : goal.evaluate-returns-in-HasText-clause-value
+evaluate-returns-in-HasText-clause-value g t c =
     let db = c.args.db.now in
     let names = names_of_protocol db c.args.protocol in
-    let r : c.from_residual-in_err-y-in-Binary.result ≡ Err c.in_err-y-in-Binary.field-0.0 = search rules in
-    recast db r (same_as db (binary_is db names c.args.e.now c.in-Binary.x c.in-Binary.y c.get-in-Binary.result.now c.get-in-Binary-2.result.now c.in-Binary.op c.in-Binary.is c.get-in-Binary.ensures c.get-in-Binary-2.ensures) (then_ok db _ c.in_ok-x-in-Binary.x c.in_ok-x-in-Binary.ensures.value (then_err db _ c.in_err-y-in-Binary.field-0.0 c.in_err-y-in-Binary.ensures.value)))
-
-pub evaluate-returns-then-not-is_so-clause-value : goal.evaluate-returns-then-not-is_so-clause-value
-evaluate-returns-then-not-is_so-clause-value g t c =
-    let db = c.args.db.now in
-    let names = names_of_protocol db c.args.protocol in
-    let b : is_so (num (shown c.args.env.now.packet.bytes c.in_ok-x-in-And.x)) ≡ false = sym (c.is_so-in-And.ensures c.args.env.now.packet.bytes) ∙ c.if-not-is_so.true in
-    same_as db (and_is db names c.args.e.now c.in-And.x c.in-And.y c.get-in-And.result.now c.in-And.y c.in-And.is c.get-in-And.ensures refl) (then_not db _ c.in_ok-x-in-And.x c.in_ok-x-in-And.ensures.value b (gives db (Ok (Num 0)) (own_is _ (Num 0) _ c.of_number-then-not-is_so.ensures)))
-
-pub evaluate-returns-in_err-y-in-And-clause-value : goal.evaluate-returns-in_err-y-in-And-clause-value
-evaluate-returns-in_err-y-in-And-clause-value g t c =
-    let db = c.args.db.now in
-    let names = names_of_protocol db c.args.protocol in
-    let r : c.from_residual-in_err-y-in-And.result ≡ Err c.in_err-y-in-And.field-0.0 = search rules in
-    let b : is_so (num (shown c.args.env.now.packet.bytes c.in_ok-x-in-And.x)) ≡ true = sym (c.is_so-in-And.ensures c.args.env.now.packet.bytes) ∙ c.if-not-is_so.false in
-    recast db r (same_as db (and_is db names c.args.e.now c.in-And.x c.in-And.y c.get-in-And.result.now c.get-in-And-2.result.now c.in-And.is c.get-in-And.ensures c.get-in-And-2.ensures) (then_so db _ c.in_ok-x-in-And.x c.in_ok-x-in-And.ensures.value b (then_err db _ c.in_err-y-in-And.field-0.0 c.in_err-y-in-And.ensures.value)))
-
-pub evaluate-returns-in_ok-y-in-And-clause-value : goal.evaluate-returns-in_ok-y-in-And-clause-value
-evaluate-returns-in_ok-y-in-And-clause-value g t c =
-    let db = c.args.db.now in
-    let names = names_of_protocol db c.args.protocol in
-    let b : is_so (num (shown c.args.env.now.packet.bytes c.in_ok-x-in-And.x)) ≡ true = sym (c.is_so-in-And.ensures c.args.env.now.packet.bytes) ∙ c.if-not-is_so.false in
-    same_as db (and_is db names c.args.e.now c.in-And.x c.in-And.y c.get-in-And.result.now c.get-in-And-2.result.now c.in-And.is c.get-in-And.ensures c.get-in-And-2.ensures) (then_so db _ c.in_ok-x-in-And.x c.in_ok-x-in-And.ensures.value b (finish_1 db (λ v. Ok (truth (is_so (num v)))) c.in_ok-y-in-And.y c.in_ok-y-in-And.ensures.value (own_is _ _ _ (c.of_truth-in-And.ensures ∙ ap (λ (b : Bool). Own (truth b)) (c.is_so-in-And-2.ensures c.evaluate-in-And-2.new.env.packet.bytes)))))
-
-pub evaluate-returns-then-is_so-clause-value : goal.evaluate-returns-then-is_so-clause-value
-evaluate-returns-then-is_so-clause-value g t c =
-    let db = c.args.db.now in
-    let names = names_of_protocol db c.args.protocol in
-    let b : is_so (num (shown c.args.env.now.packet.bytes c.in_ok-x-in-Or.x)) ≡ true = sym (c.is_so-in-Or.ensures c.args.env.now.packet.bytes) ∙ c.if-is_so.true in
-    same_as db (or_is db names c.args.e.now c.in-Or.x c.in-Or.y c.get-in-Or.result.now c.in-Or.y c.in-Or.is c.get-in-Or.ensures refl) (then_so db _ c.in_ok-x-in-Or.x c.in_ok-x-in-Or.ensures.value b (gives db (Ok (Num 1)) (own_is _ (Num 1) _ c.of_number-then-is_so.ensures)))
-
-pub evaluate-returns-in_err-y-in-Or-clause-value : goal.evaluate-returns-in_err-y-in-Or-clause-value
-evaluate-returns-in_err-y-in-Or-clause-value g t c =
-    let db = c.args.db.now in
-    let names = names_of_protocol db c.args.protocol in
-    let r : c.from_residual-in_err-y-in-Or.result ≡ Err c.in_err-y-in-Or.field-0.0 = search rules in
-    let b : is_so (num (shown c.args.env.now.packet.bytes c.in_ok-x-in-Or.x)) ≡ false = sym (c.is_so-in-Or.ensures c.args.env.now.packet.bytes) ∙ c.if-is_so.false in
-    recast db r (same_as db (or_is db names c.args.e.now c.in-Or.x c.in-Or.y c.get-in-Or.result.now c.get-in-Or-2.result.now c.in-Or.is c.get-in-Or.ensures c.get-in-Or-2.ensures) (then_not db _ c.in_ok-x-in-Or.x c.in_ok-x-in-Or.ensures.value b (then_err db _ c.in_err-y-in-Or.field-0.0 c.in_err-y-in-Or.ensures.value)))
-
-pub evaluate-returns-in_ok-y-in-Or-clause-value : goal.evaluate-returns-in_ok-y-in-Or-clause-value
-evaluate-returns-in_ok-y-in-Or-clause-value g t c =
-    let db = c.args.db.now in
-    let names = names_of_protocol db c.args.protocol in
-    let b : is_so (num (shown c.args.env.now.packet.bytes c.in_ok-x-in-Or.x)) ≡ false = sym (c.is_so-in-Or.ensures c.args.env.now.packet.bytes) ∙ c.if-is_so.false in
-    same_as db (or_is db names c.args.e.now c.in-Or.x c.in-Or.y c.get-in-Or.result.now c.get-in-Or-2.result.now c.in-Or.is c.get-in-Or.ensures c.get-in-Or-2.ensures) (then_not db _ c.in_ok-x-in-Or.x c.in_ok-x-in-Or.ensures.value b (finish_1 db (λ v. Ok (truth (is_so (num v)))) c.in_ok-y-in-Or.y c.in_ok-y-in-Or.ensures.value (own_is _ _ _ (c.of_truth-in-Or.ensures ∙ ap (λ (b : Bool). Own (truth b)) (c.is_so-in-Or-2.ensures c.evaluate-in-Or-2.new.env.packet.bytes)))))
-
-pub evaluate-returns-in_ok-y-in-Binary-clause-value : goal.evaluate-returns-in_ok-y-in-Binary-clause-value
-evaluate-returns-in_ok-y-in-Binary-clause-value g t c =
-    let db = c.args.db.now in
-    let names = names_of_protocol db c.args.protocol in
-    same_as db (binary_is db names c.args.e.now c.in-Binary.x c.in-Binary.y c.get-in-Binary.result.now c.get-in-Binary-2.result.now c.in-Binary.op c.in-Binary.is c.get-in-Binary.ensures c.get-in-Binary-2.ensures) (finish_2 db (def.binary c.in-Binary.op) c.in_ok-x-in-Binary.x c.in_ok-y-in-Binary.y c.in_ok-x-in-Binary.ensures.value c.in_ok-y-in-Binary.ensures.value c.binary.ensures)
-
-pub evaluate-returns-in_err-base-in-Slice-clause-value : goal.evaluate-returns-in_err-base-in-Slice-clause-value
-evaluate-returns-in_err-base-in-Slice-clause-value g t c =
-    let db = c.args.db.now in
-    let names = names_of_protocol db c.args.protocol in
-    let r : c.from_residual-in_err-base-in-Slice.result ≡ Err c.in_err-base-in-Slice.field-0.0 = search rules in
-    recast db r (same_as db (slice_is db names c.args.e.now c.in-Slice.base c.in-Slice.from c.in-Slice.count c.get-in-Slice.result.now c.in-Slice.from c.in-Slice.count c.in-Slice.is c.get-in-Slice.ensures refl refl) (then_err db _ c.in_err-base-in-Slice.field-0.0 c.in_err-base-in-Slice.ensures.value))
-
-pub evaluate-returns-in_err-from-in-Slice-clause-value : goal.evaluate-returns-in_err-from-in-Slice-clause-value
-evaluate-returns-in_err-from-in-Slice-clause-value g t c =
-    let db = c.args.db.now in
-    let names = names_of_protocol db c.args.protocol in
-    let r : c.from_residual-in_err-from-in-Slice.result ≡ Err c.in_err-from-in-Slice.field-0.0 = search rules in
-    recast db r (same_as db (slice_is db names c.args.e.now c.in-Slice.base c.in-Slice.from c.in-Slice.count c.get-in-Slice.result.now c.get-in-Slice-2.result.now c.in-Slice.count c.in-Slice.is c.get-in-Slice.ensures c.get-in-Slice-2.ensures refl) (then_ok db _ c.in_ok-base-in-Slice.base c.in_ok-base-in-Slice.ensures.value (then_err db _ c.in_err-from-in-Slice.field-0.0 c.in_err-from-in-Slice.ensures.value)))
-
-pub evaluate-returns-in_err-count-in-Slice-clause-value : goal.evaluate-returns-in_err-count-in-Slice-clause-value
-evaluate-returns-in_err-count-in-Slice-clause-value g t c =
-    let db = c.args.db.now in
-    let names = names_of_protocol db c.args.protocol in
-    let r : c.from_residual-in_err-count-in-Slice.result ≡ Err c.in_err-count-in-Slice.field-0.0 = search rules in
-    recast db r (same_as db (slice_is db names c.args.e.now c.in-Slice.base c.in-Slice.from c.in-Slice.count c.get-in-Slice.result.now c.get-in-Slice-2.result.now c.get-in-Slice-3.result.now c.in-Slice.is c.get-in-Slice.ensures c.get-in-Slice-2.ensures c.get-in-Slice-3.ensures) (then_ok db _ c.in_ok-base-in-Slice.base c.in_ok-base-in-Slice.ensures.value (then_ok db _ c.in_ok-from-in-Slice.from c.in_ok-from-in-Slice.ensures.value (then_err db _ c.in_err-count-in-Slice.field-0.0 c.in_err-count-in-Slice.ensures.value))))
-
-pub evaluate-returns-in_ok-count-in-Slice-clause-value : goal.evaluate-returns-in_ok-count-in-Slice-clause-value
-evaluate-returns-in_ok-count-in-Slice-clause-value g t c =
-    let db = c.args.db.now in
-    let names = names_of_protocol db c.args.protocol in
-    same_as db (slice_is db names c.args.e.now c.in-Slice.base c.in-Slice.from c.in-Slice.count c.get-in-Slice.result.now c.get-in-Slice-2.result.now c.get-in-Slice-3.result.now c.in-Slice.is c.get-in-Slice.ensures c.get-in-Slice-2.ensures c.get-in-Slice-3.ensures) (finish_3 db (λ v w n. def.slice (buf v) (num w) (num n)) c.in_ok-base-in-Slice.base c.in_ok-from-in-Slice.from c.in_ok-count-in-Slice.count c.in_ok-base-in-Slice.ensures.value c.in_ok-from-in-Slice.ensures.value c.in_ok-count-in-Slice.ensures.value c.slice.ensures)
-
-pub evaluate-returns-in_ok-x-in-Not-clause-value : goal.evaluate-returns-in_ok-x-in-Not-clause-value
-evaluate-returns-in_ok-x-in-Not-clause-value g t c =
-    let db = c.args.db.now in
-    let names = names_of_protocol db c.args.protocol in
-    same_as db (not_is db names c.args.e.now c.in-Not.x c.get.result.now c.in-Not.is c.get.ensures) (finish_1 db (λ v. Ok (truth (not (is_so (num v))))) c.in_ok-x-in-Not.x c.in_ok-x-in-Not.ensures.value (own_is _ _ _ (c.of_truth-in-Not.ensures ∙ ap (λ (b : Bool). Own (truth (not b))) (c.is_so.ensures c.evaluate.new.env.packet.bytes))))
-
-pub evaluate-returns-in_ok-x-in-ToNumber-clause-value : goal.evaluate-returns-in_ok-x-in-ToNumber-clause-value
-evaluate-returns-in_ok-x-in-ToNumber-clause-value g t c =
-    let db = c.args.db.now in
-    let names = names_of_protocol db c.args.protocol in
-    same_as db (to_number_is db names c.args.e.now c.in-ToNumber.x c.get-in-ToNumber.result.now c.in-ToNumber.is c.get-in-ToNumber.ensures) (finish_1 db (λ v. def.to_number (buf v)) c.in_ok-x-in-ToNumber.x c.in_ok-x-in-ToNumber.ensures.value c.to_number.ensures)
-
-pub evaluate-returns-in_ok-x-in-LengthOf-clause-value : goal.evaluate-returns-in_ok-x-in-LengthOf-clause-value
-evaluate-returns-in_ok-x-in-LengthOf-clause-value g t c =
-    let db = c.args.db.now in
-    let names = names_of_protocol db c.args.protocol in
-    same_as db (length_is db names c.args.e.now c.in-LengthOf.x c.get-in-LengthOf.result.now c.in-LengthOf.is c.get-in-LengthOf.ensures) (finish_1 db (λ v. Ok (Num (length (buf v)))) c.in_ok-x-in-LengthOf.x c.in_ok-x-in-LengthOf.ensures.value (own_is _ _ _ c.length_of.ensures))
-
-pub evaluate-returns-in_ok-x-in-ToBytes-clause-value : goal.evaluate-returns-in_ok-x-in-ToBytes-clause-value
-evaluate-returns-in_ok-x-in-ToBytes-clause-value g t c =
-    let db = c.args.db.now in
-    let names = names_of_protocol db c.args.protocol in
-    same_as db (to_bytes_is db names c.args.e.now c.in-ToBytes.value c.get-in-ToBytes.result.now c.in-ToBytes.size c.in-ToBytes.is c.get-in-ToBytes.ensures) (finish_1 db (λ v. def.in_bytes c.in-ToBytes.size (num v)) c.in_ok-x-in-ToBytes.x c.in_ok-x-in-ToBytes.ensures.value (c.to_bytes.ensures _))
-
-pub evaluate-returns-in_ok-x-in-HasText-clause-value : goal.evaluate-returns-in_ok-x-in-HasText-clause-value
-evaluate-returns-in_ok-x-in-HasText-clause-value g t c =
-    let db = c.args.db.now in
-    let names = names_of_protocol db c.args.protocol in
-    same_as db (has_text_is db names c.args.e.now c.in-HasText.within c.get-in-HasText.result.now c.in-HasText.text c.in-HasText.is c.get-in-HasText.ensures) (finish_1 db (λ v. Ok (truth (occurs c.in-HasText.text (buf v)))) c.in_ok-x-in-HasText.x c.in_ok-x-in-HasText.ensures.value (own_is _ _ _ c.has_text.ensures))
+    same_as db (has_text_is db names c.args.e.now c.in-HasText.within c.get-in-HasText.result.now c.in-HasText.text c.in-HasText.is c.get-in-HasText.ensures) c.has_text.ensures.value
 
 pub evaluate-returns-in-Number-clause-value : goal.evaluate-returns-in-Number-clause-value
 evaluate-returns-in-Number-clause-value g t c =
@@ -243,6 +127,151 @@ evaluate-returns-in-LookUp-clause-value g t c =
     let db = c.args.db.now in
     let names = names_of_protocol db c.args.protocol in
     same_as db (look_up_is db names c.args.e.now c.in-LookUp.table c.in-LookUp.renew c.in-LookUp.keys c.as_slice-in-LookUp.result.now c.in-LookUp.is c.as_slice-in-LookUp.ensures) c.look_up.ensures.value
+
+pub negation-returns-in_err-x-clause-value : goal.negation-returns-in_err-x-clause-value
+negation-returns-in_err-x-clause-value g t c =
+    let db = c.args.db.now in
+    let r : c.from_residual.result ≡ Err c.in_err-x.field-0.0 = search rules in
+    recast db r (then_err db _ c.in_err-x.field-0.0 c.in_err-x.ensures.value)
+
+pub negation-returns-clause-value : goal.negation-returns-clause-value
+negation-returns-clause-value g t c =
+    let db = c.args.db.now in
+    finish_1 db (λ v. Ok (truth (not (is_so (num v))))) c.in_ok-x.x c.in_ok-x.ensures.value (own_is _ _ _ (c.of_truth.ensures ∙ ap (λ (b : Bool). Own (truth (not b))) (c.is_so.ensures c.evaluate.new.env.packet.bytes)))
+
+pub conjunction-returns-in_err-x-clause-value : goal.conjunction-returns-in_err-x-clause-value
+conjunction-returns-in_err-x-clause-value g t c =
+    let db = c.args.db.now in
+    let r : c.from_residual.result ≡ Err c.in_err-x.field-0.0 = search rules in
+    recast db r (then_err db _ c.in_err-x.field-0.0 c.in_err-x.ensures.value)
+
+pub conjunction-returns-then-not-is_so-clause-value : goal.conjunction-returns-then-not-is_so-clause-value
+conjunction-returns-then-not-is_so-clause-value g t c =
+    let db = c.args.db.now in
+    let b : is_so (num (shown c.args.env.now.packet.bytes c.in_ok-x.x)) ≡ false = sym (c.is_so.ensures c.args.env.now.packet.bytes) ∙ c.if-not-is_so.true in
+    then_not db _ c.in_ok-x.x c.in_ok-x.ensures.value b (gives db (Ok (Num 0)) (own_is _ (Num 0) _ c.of_number.ensures))
+
+pub conjunction-returns-in_err-y-clause-value : goal.conjunction-returns-in_err-y-clause-value
+conjunction-returns-in_err-y-clause-value g t c =
+    let db = c.args.db.now in
+    let r : c.from_residual-in_err-y.result ≡ Err c.in_err-y.field-0.0 = search rules in
+    let b : is_so (num (shown c.args.env.now.packet.bytes c.in_ok-x.x)) ≡ true = sym (c.is_so.ensures c.args.env.now.packet.bytes) ∙ c.if-not-is_so.false in
+    recast db r (then_so db _ c.in_ok-x.x c.in_ok-x.ensures.value b (then_err db _ c.in_err-y.field-0.0 c.in_err-y.ensures.value))
+
+pub conjunction-returns-clause-value : goal.conjunction-returns-clause-value
+conjunction-returns-clause-value g t c =
+    let db = c.args.db.now in
+    let b : is_so (num (shown c.args.env.now.packet.bytes c.in_ok-x.x)) ≡ true = sym (c.is_so.ensures c.args.env.now.packet.bytes) ∙ c.if-not-is_so.false in
+    then_so db _ c.in_ok-x.x c.in_ok-x.ensures.value b (finish_1 db (λ v. Ok (truth (is_so (num v)))) c.in_ok-y.y c.in_ok-y.ensures.value (own_is _ _ _ (c.of_truth.ensures ∙ ap (λ (b : Bool). Own (truth b)) (c.is_so-2.ensures c.evaluate-2.new.env.packet.bytes))))
+
+pub disjunction-returns-in_err-x-clause-value : goal.disjunction-returns-in_err-x-clause-value
+disjunction-returns-in_err-x-clause-value g t c =
+    let db = c.args.db.now in
+    let r : c.from_residual.result ≡ Err c.in_err-x.field-0.0 = search rules in
+    recast db r (then_err db _ c.in_err-x.field-0.0 c.in_err-x.ensures.value)
+
+pub disjunction-returns-then-is_so-clause-value : goal.disjunction-returns-then-is_so-clause-value
+disjunction-returns-then-is_so-clause-value g t c =
+    let db = c.args.db.now in
+    let b : is_so (num (shown c.args.env.now.packet.bytes c.in_ok-x.x)) ≡ true = sym (c.is_so.ensures c.args.env.now.packet.bytes) ∙ c.if-is_so.true in
+    then_so db _ c.in_ok-x.x c.in_ok-x.ensures.value b (gives db (Ok (Num 1)) (own_is _ (Num 1) _ c.of_number.ensures))
+
+pub disjunction-returns-in_err-y-clause-value : goal.disjunction-returns-in_err-y-clause-value
+disjunction-returns-in_err-y-clause-value g t c =
+    let db = c.args.db.now in
+    let r : c.from_residual-in_err-y.result ≡ Err c.in_err-y.field-0.0 = search rules in
+    let b : is_so (num (shown c.args.env.now.packet.bytes c.in_ok-x.x)) ≡ false = sym (c.is_so.ensures c.args.env.now.packet.bytes) ∙ c.if-is_so.false in
+    recast db r (then_not db _ c.in_ok-x.x c.in_ok-x.ensures.value b (then_err db _ c.in_err-y.field-0.0 c.in_err-y.ensures.value))
+
+pub disjunction-returns-clause-value : goal.disjunction-returns-clause-value
+disjunction-returns-clause-value g t c =
+    let db = c.args.db.now in
+    let b : is_so (num (shown c.args.env.now.packet.bytes c.in_ok-x.x)) ≡ false = sym (c.is_so.ensures c.args.env.now.packet.bytes) ∙ c.if-is_so.false in
+    then_not db _ c.in_ok-x.x c.in_ok-x.ensures.value b (finish_1 db (λ v. Ok (truth (is_so (num v)))) c.in_ok-y.y c.in_ok-y.ensures.value (own_is _ _ _ (c.of_truth.ensures ∙ ap (λ (b : Bool). Own (truth b)) (c.is_so-2.ensures c.evaluate-2.new.env.packet.bytes))))
+
+pub operation-returns-in_err-x-clause-value : goal.operation-returns-in_err-x-clause-value
+operation-returns-in_err-x-clause-value g t c =
+    let db = c.args.db.now in
+    let r : c.from_residual.result ≡ Err c.in_err-x.field-0.0 = search rules in
+    recast db r (then_err db _ c.in_err-x.field-0.0 c.in_err-x.ensures.value)
+
+pub operation-returns-in_err-y-clause-value : goal.operation-returns-in_err-y-clause-value
+operation-returns-in_err-y-clause-value g t c =
+    let db = c.args.db.now in
+    let r : c.from_residual-in_err-y.result ≡ Err c.in_err-y.field-0.0 = search rules in
+    recast db r (then_ok db _ c.in_ok-x.x c.in_ok-x.ensures.value (then_err db _ c.in_err-y.field-0.0 c.in_err-y.ensures.value))
+
+pub operation-returns-clause-value : goal.operation-returns-clause-value
+operation-returns-clause-value g t c =
+    let db = c.args.db.now in
+    finish_2 db (def.binary c.args.op) c.in_ok-x.x c.in_ok-y.y c.in_ok-x.ensures.value c.in_ok-y.ensures.value c.binary.ensures
+
+pub slice-returns-in_err-base-clause-value : goal.slice-returns-in_err-base-clause-value
+slice-returns-in_err-base-clause-value g t c =
+    let db = c.args.db.now in
+    let r : c.from_residual.result ≡ Err c.in_err-base.field-0.0 = search rules in
+    recast db r (then_err db _ c.in_err-base.field-0.0 c.in_err-base.ensures.value)
+
+pub slice-returns-in_err-from-clause-value : goal.slice-returns-in_err-from-clause-value
+slice-returns-in_err-from-clause-value g t c =
+    let db = c.args.db.now in
+    let r : c.from_residual-in_err-from.result ≡ Err c.in_err-from.field-0.0 = search rules in
+    recast db r (then_ok db _ c.in_ok-base.base c.in_ok-base.ensures.value (then_err db _ c.in_err-from.field-0.0 c.in_err-from.ensures.value))
+
+pub slice-returns-in_err-count-clause-value : goal.slice-returns-in_err-count-clause-value
+slice-returns-in_err-count-clause-value g t c =
+    let db = c.args.db.now in
+    let r : c.from_residual-in_err-count.result ≡ Err c.in_err-count.field-0.0 = search rules in
+    recast db r (then_ok db _ c.in_ok-base.base c.in_ok-base.ensures.value (then_ok db _ c.in_ok-from.from c.in_ok-from.ensures.value (then_err db _ c.in_err-count.field-0.0 c.in_err-count.ensures.value)))
+
+pub slice-returns-clause-value : goal.slice-returns-clause-value
+slice-returns-clause-value g t c =
+    let db = c.args.db.now in
+    finish_3 db (λ v w n. def.slice (buf v) (num w) (num n)) c.in_ok-base.base c.in_ok-from.from c.in_ok-count.count c.in_ok-base.ensures.value c.in_ok-from.ensures.value c.in_ok-count.ensures.value c.slice.ensures
+
+pub to_number-returns-in_err-x-clause-value : goal.to_number-returns-in_err-x-clause-value
+to_number-returns-in_err-x-clause-value g t c =
+    let db = c.args.db.now in
+    let r : c.from_residual.result ≡ Err c.in_err-x.field-0.0 = search rules in
+    recast db r (then_err db _ c.in_err-x.field-0.0 c.in_err-x.ensures.value)
+
+pub to_number-returns-clause-value : goal.to_number-returns-clause-value
+to_number-returns-clause-value g t c =
+    let db = c.args.db.now in
+    finish_1 db (λ v. def.to_number (buf v)) c.in_ok-x.x c.in_ok-x.ensures.value c.to_number.ensures
+
+pub length_of-returns-in_err-x-clause-value : goal.length_of-returns-in_err-x-clause-value
+length_of-returns-in_err-x-clause-value g t c =
+    let db = c.args.db.now in
+    let r : c.from_residual.result ≡ Err c.in_err-x.field-0.0 = search rules in
+    recast db r (then_err db _ c.in_err-x.field-0.0 c.in_err-x.ensures.value)
+
+pub length_of-returns-clause-value : goal.length_of-returns-clause-value
+length_of-returns-clause-value g t c =
+    let db = c.args.db.now in
+    finish_1 db (λ v. Ok (Num (length (buf v)))) c.in_ok-x.x c.in_ok-x.ensures.value (own_is _ _ _ c.length_of.ensures)
+
+pub to_bytes-returns-in_err-x-clause-value : goal.to_bytes-returns-in_err-x-clause-value
+to_bytes-returns-in_err-x-clause-value g t c =
+    let db = c.args.db.now in
+    let r : c.from_residual.result ≡ Err c.in_err-x.field-0.0 = search rules in
+    recast db r (then_err db _ c.in_err-x.field-0.0 c.in_err-x.ensures.value)
+
+pub to_bytes-returns-clause-value : goal.to_bytes-returns-clause-value
+to_bytes-returns-clause-value g t c =
+    let db = c.args.db.now in
+    finish_1 db (λ v. def.in_bytes c.args.size (num v)) c.in_ok-x.x c.in_ok-x.ensures.value (c.to_bytes.ensures _)
+
+pub has_text-returns-in_err-x-clause-value : goal.has_text-returns-in_err-x-clause-value
+has_text-returns-in_err-x-clause-value g t c =
+    let db = c.args.db.now in
+    let r : c.from_residual.result ≡ Err c.in_err-x.field-0.0 = search rules in
+    recast db r (then_err db _ c.in_err-x.field-0.0 c.in_err-x.ensures.value)
+
+pub has_text-returns-clause-value : goal.has_text-returns-clause-value
+has_text-returns-clause-value g t c =
+    let db = c.args.db.now in
+    finish_1 db (λ v. Ok (truth (occurs c.args.text.now (buf v)))) c.in_ok-x.x c.in_ok-x.ensures.value (own_is _ _ _ c.has_text.ensures)
 
 pub look_up-returns-in_err-keys-in-Some-clause-value : goal.look_up-returns-in_err-keys-in-Some-clause-value
 look_up-returns-in_err-keys-in-Some-clause-value g t c =

@@ -1,4 +1,5 @@
-use Rattle.std.proofs.Common.{◌≡◌, map, drop}
+use Rattle.std.proofs.Common.{◌≡◌, map, drop, max, ◌+◌, ◌*◌}
+use Rattle.db_model.proofs.expression.Expr.TheLaws.{the_size}
 use Rattle.db_model.specs.declared.database.KeyDecl.{KeyDecl}
 use Rattle.db_model.specs.Expression.{val}
 use Rattle.db_model.specs.Numbering.{names_of_protocol}
@@ -13,3 +14,41 @@ invariant-keys-loop-i g l = record {
   so_far : Keys_so_far l.fn.db (map (λ (k : KeyDecl). k.size) l.fn.sizes) (map (val l.fn.db (names_of_protocol l.fn.db l.fn.protocol)) l.fn.parts) (point l.fn.env (g.A.Answers.content l.fn.answers) (g.A.Answers.told l.fn.answers))
       l.keys (drop l.i (map (λ (k : KeyDecl). k.size) l.fn.sizes)) (drop l.i (map (val l.fn.db (names_of_protocol l.fn.db l.fn.protocol)) l.fn.parts)) (point l.env (g.A.Answers.content l.answers) (g.A.Answers.told l.answers));
 }
+
+-- The depth of what is evaluated. A form stands above the evaluation of its parts, and a look-up above its keys.
+abbrev pub decreases-evaluate : goal.decreases-evaluate
+decreases-evaluate g l = 3 * goal.size-evaluate g l
+
+abbrev pub decreases-negation : goal.decreases-negation
+decreases-negation g l = 3 * goal.size-negation g l + 1
+
+abbrev pub decreases-to_number : goal.decreases-to_number
+decreases-to_number g l = 3 * goal.size-to_number g l + 1
+
+abbrev pub decreases-length_of : goal.decreases-length_of
+decreases-length_of g l = 3 * goal.size-length_of g l + 1
+
+abbrev pub decreases-to_bytes : goal.decreases-to_bytes
+decreases-to_bytes g l = 3 * goal.size-to_bytes g l + 1
+
+abbrev pub decreases-has_text : goal.decreases-has_text
+decreases-has_text g l = 3 * goal.size-has_text g l + 1
+
+abbrev pub decreases-keys : goal.decreases-keys
+decreases-keys g l = 3 * goal.size-keys g l + 1
+
+abbrev pub decreases-look_up : goal.decreases-look_up
+decreases-look_up g l = 3 * goal.size-look_up g l + 2
+
+-- of several parts the deepest counts
+abbrev pub decreases-conjunction : goal.decreases-conjunction
+decreases-conjunction g l = 3 * max (the_size l.x.now) (the_size l.y.now) + 1
+
+abbrev pub decreases-disjunction : goal.decreases-disjunction
+decreases-disjunction g l = 3 * max (the_size l.x.now) (the_size l.y.now) + 1
+
+abbrev pub decreases-operation : goal.decreases-operation
+decreases-operation g l = 3 * max (the_size l.x.now) (the_size l.y.now) + 1
+
+abbrev pub decreases-slice : goal.decreases-slice
+decreases-slice g l = 3 * max (the_size l.base.now) (max (the_size l.from.now) (the_size l.count.now)) + 1
