@@ -1,4 +1,4 @@
-ghost use Rattle.std.specs.Prelude.{◌≡◌, ◌++◌, ◌∷◌, [], OnOk, codes};
+ghost use Rattle.std.specs.Prelude.{◌≡◌, ◌++◌, ◌∷◌, [], IsTrue, OnOk, codes, false};
 ghost use Rattle.show.specs.Markup;
 
 use crate::text::push;
@@ -34,7 +34,38 @@ fn push_one(text: &mut Vec<u8>, byte: u8) -> Result<(), NoMemory>
     Ok(())
 }
 
+/// Whether a byte is a sign of the markup.
+#[tactic(auto, unfolding(crate::specs::Markup::entity))]
+fn is_sign(byte: u8) -> bool
+    ensures { result ≡ false → Markup.entity byte ≡ byte ∷ [] }
+{
+    matches!(byte, b'&' | b'<' | b'>' | b'"')
+}
+
+/// Whether no byte is a sign of the markup.
+fn is_plain(bytes: &[u8]) -> bool
+    ensures { IsTrue result → Markup.escaped bytes.now ≡ bytes.now }
+{
+    for byte in bytes {
+        if is_sign(*byte) {
+            return false;
+        }
+    }
+    true
+}
+
+/// Most texts have no sign of the markup, and then are added as a whole.
 fn push_escaped(text: &mut Vec<u8>, bytes: &[u8]) -> Result<(), NoMemory>
+    ensures { OnOk result (text.new.items ≡ text.old.items ++ Markup.escaped bytes.now) }
+{
+    if is_plain(bytes) {
+        push(text, bytes)
+    } else {
+        push_each(text, bytes)
+    }
+}
+
+fn push_each(text: &mut Vec<u8>, bytes: &[u8]) -> Result<(), NoMemory>
     ensures { OnOk result (text.new.items ≡ text.old.items ++ Markup.escaped bytes.now) }
 {
     for byte in bytes {

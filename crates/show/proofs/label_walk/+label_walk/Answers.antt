@@ -1,4 +1,4 @@
-use Rattle.std.proofs.Common.{◌≡◌, ◌∙◌, sym, ap, subst, OnOk}
+use Rattle.std.proofs.Common.{◌≡◌, ◌∙◌, ap, subst, OnOk}
 use Rattle.show.specs.declared.labels.ProtocolLabels.{ProtocolLabels}
 use Rattle.show.specs.Labels.{then, a_block, block_label, labels_in, labels_of_element, labels_of_cases, labels_of_other}
 use Rattle.show.proofs.LabelLemmas.{labels_are, none_behind, both_behind, labels_field, labels_block, labels_loop, labels_switch, labels_if, labels_include, labels_control, labels_assign, labels_update, labels_next}

@@ -1,5 +1,4 @@
 use Rattle.std.proofs.Common.{◌≡◌, List, ℕ, ◌<◌, ◌^◌, ◌++◌, OnOk, decimal, sym, ap, subst, ◌∙◌, arith}
-use Rattle.hex.specs.Hex.{encode_lower}
 use Rattle.db_model.specs.declared.database.ShowType.{ShowType}
 use Rattle.show.specs.Markup.{written}
 use Rattle.show.specs.Shown.{group_shown}
