@@ -7,7 +7,7 @@ ghost use Rattle.pdl_code.specs.Does.{IsCodeOf};
 
 use crate::list::{Ended, run};
 use db_model::{
-    Answers, CheckedDb, FieldValues, Frame, MOST_ENTERED, NoMemory, Node, Nodes, PacketTree, Proto,
+    Answers, CheckedDb, Frame, MOST_ENTERED, NoMemory, Node, Nodes, PacketTree, Proto,
     Reason, STAMP_END, Way,
 };
 use pdl_code::Code;
@@ -85,7 +85,7 @@ fn protocol<A: Answers>(
     ensures placed { IfOk result (λ e. IsPlaced e.frame) }
 {
     frame.env.origin = frame.env.at;
-    frame.env.present = FieldValues::new(alloc);
+    frame.env.present.clear();
     let Some(_declared) = db.database().protocols.get(number as usize) else {
         return Ok(Ended {
             way: Way::Next,
