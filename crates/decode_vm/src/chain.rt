@@ -6,9 +6,10 @@ ghost use Rattle.decode_vm.specs.Run.{IsPlaced};
 ghost use Rattle.pdl_code.specs.Does.{IsCodeOf};
 
 use crate::list::{Ended, run};
+use crate::room::no_protocols;
 use db_model::{
-    Answers, CheckedDb, Frame, MOST_ENTERED, NoMemory, Node, Nodes, PacketTree, Proto,
-    Reason, STAMP_END, Way,
+    Answers, CheckedDb, Frame, MOST_ENTERED, NoMemory, Node, Nodes, PacketTree, Proto, Reason,
+    STAMP_END, Way,
 };
 use pdl_code::Code;
 use std::alloc::Global;
@@ -40,7 +41,7 @@ pub fn follow<A: Answers>(
     ensures packet { IfOk result (λ e. e.frame.env.packet ≡ frame.env.packet) }
     ensures placed { IfOk result (λ e. IsPlaced e.frame) }
 {
-    let mut protos = PacketTree::new(alloc);
+    let mut protos = no_protocols(alloc);
     let mut number = first;
     let mut frame = frame;
     let mut left = MOST_ENTERED - 1;

@@ -15,6 +15,7 @@ mod machine;
 mod masks;
 mod packet;
 mod resume;
+mod room;
 mod set;
 mod steps;
 mod turn;

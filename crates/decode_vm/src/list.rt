@@ -7,6 +7,7 @@ ghost use Rattle.decode_vm.specs.Sound.{Sound};
 use crate::act::act;
 use crate::machine::{Machine, Mode};
 use crate::resume::resume;
+use crate::room::no_nodes;
 use crate::turn::turn;
 use db_model::{Answers, CheckedDb, Frame, NoMemory, Nodes, STAMP_END, Way};
 use pdl_code::ProtoCode;
@@ -43,7 +44,7 @@ pub fn run<A: Answers>(
     let mut m = Machine {
         mode: Mode::At(0),
         held: Items::new(alloc),
-        nodes: Nodes::new(alloc),
+        nodes: no_nodes(alloc),
         frame,
     };
     loop {

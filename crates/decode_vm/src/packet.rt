@@ -1,9 +1,10 @@
-ghost use Rattle.std.specs.Prelude.{◌≡◌, ◌+◌, ◌<◌, ◌++◌, OnOk};
-ghost use Rattle.db_model.specs.Decoding.{payload};
+ghost use Rattle.std.specs.Prelude.{◌≡◌, ◌+◌, ◌<◌, ◌++◌, IfOk, OnOk};
+ghost use Rattle.db_model.specs.Decoding.{payload, start_env};
 ghost use Rattle.decode_vm.specs.Decode.{Decodes};
 ghost use Rattle.pdl_code.specs.Does.{IsCodeOf};
 
 use crate::chain::{Chained, follow};
+use crate::room::no_fields;
 use crate::steps::Steps;
 use db_laws::asks_properly;
 use db_model::{
@@ -34,7 +35,7 @@ pub fn decode<A: Answers, L: Ledger>(
     asks_properly();
     let _checked = db.database();
     let first = db.protocol_at(b"startproto") as u16;
-    let env = Env::start(alloc, db, packet)?;
+    let env = start(alloc, db, packet)?;
     let frame = Frame {
         env,
         nodes: MOST_NODES,
@@ -42,6 +43,15 @@ pub fn decode<A: Answers, L: Ledger>(
     let Chained { mut protos, frame } = follow(alloc, db, code, first, frame, answers)?;
     add_payload(alloc, &frame, &mut protos)?;
     Ok(protos)
+}
+
+/// The state with which the decoding begins.
+fn start(alloc: Global, db: &CheckedDb, packet: &Packet) -> Result<Env, NoMemory>
+    ensures { IfOk result (λ e. e ≡ start_env db.now packet.now) }
+{
+    let mut env = Env::start(alloc, db, packet)?;
+    env.present = no_fields(alloc);
+    Ok(env)
 }
 
 /// The bytes that no protocol took, as a protocol with one field.

@@ -19,7 +19,7 @@ loop-protos-init g c =
     record {
       database = c.requires.database;
       so_far =
-          subst (λ (ps : List Proto). ChainSoFar c.args.db.now MOST_ENTERED c.args.first c.args.frame (g.A.Answers.content c.args.answers.now) (g.A.Answers.told c.args.answers.now) 31 c.args.first ps c.args.frame (g.A.Answers.content c.args.answers.now) (g.A.Answers.told c.args.answers.now)) (sym c.new-protos.ensures)
+          subst (λ (ps : List Proto). ChainSoFar c.args.db.now MOST_ENTERED c.args.first c.args.frame (g.A.Answers.content c.args.answers.now) (g.A.Answers.told c.args.answers.now) 31 c.args.first ps c.args.frame (g.A.Answers.content c.args.answers.now) (g.A.Answers.told c.args.answers.now)) (sym c.no_protocols-protos.ensures)
           (chain_first c.args.db.now 31 c.args.first c.args.frame (g.A.Answers.content c.args.answers.now) (g.A.Answers.told c.args.answers.now) c.requires.placed c.requires.fit);
     }
 

@@ -5,7 +5,7 @@ use Rattle.decode_vm.proofs.Stepping.{so_far_begun, so_far_on, step_less, so_far
 use Rattle.decode_vm.proofs.list.run.Goals as goal
 
 pub loop-m-init : goal.loop-m-init
-loop-m-init g c = record { database = c.requires.database; so_far = so_far_begun c.args.db.now (names_of_protocol c.args.db.now c.args.protocol) c.args.code.now c.args.frame (g.A.Answers.content c.args.answers.now) (g.A.Answers.told c.args.answers.now) c.new.result c.new-2.result c.new.ensures c.new-2.ensures c.requires.placed }
+loop-m-init g c = record { database = c.requires.database; so_far = so_far_begun c.args.db.now (names_of_protocol c.args.db.now c.args.protocol) c.args.code.now c.args.frame (g.A.Answers.content c.args.answers.now) (g.A.Answers.told c.args.answers.now) c.new.result c.no_nodes.result c.new.ensures c.no_nodes.ensures c.requires.placed }
 
 pub loop-m-preserved : goal.loop-m-preserved
 loop-m-preserved g c =
