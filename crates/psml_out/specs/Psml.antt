@@ -42,15 +42,15 @@ content_text db packet p (content.Header part) = header_part packet part
 -- ---- the texts of the sections
 
 -- what a piece of a protocol of the tree adds to the text of the section of a number
-abbrev pub piece_text : Database → Packet → ℕ → Proto → Piece → List ℕ
+unfoldable pub piece_text : Database → Packet → ℕ → Proto → Piece → List ℕ
 piece_text db packet section p piece = if piece.section == section then content_text db packet p piece.content else []
 
 -- what the summary of a protocol of the tree adds to it
-abbrev pub proto_text : Database → Packet → ℕ → Proto → List ℕ
+unfoldable pub proto_text : Database → Packet → ℕ → Proto → List ℕ
 proto_text db packet section p = flat_map (piece_text db packet section p) (pieces_of (summaries_of db) p.number)
 
 -- the text of the section of a number: what the protocols of the tree add, one behind another
-abbrev pub section_text : Database → Packet → List Proto → ℕ → List ℕ
+unfoldable pub section_text : Database → Packet → List Proto → ℕ → List ℕ
 section_text db packet tree section = flat_map (proto_text db packet section) tree
 
 abbrev pub section_texts : Database → Packet → List Proto → List (List ℕ)

@@ -1,5 +1,5 @@
 -- What a database says of its summaries: the sections, and for each sum template what it adds to the texts of which sections.
-use Rattle.std.specs.Prelude.{ℕ, List, [], ◌∷◌, map, slice_get, unwrap_or, Option, Some, None}
+use Rattle.std.specs.Prelude.{ℕ, List, [], ◌∷◌, ◌++◌, map, slice_get, unwrap_or, Option, Some, None}
 use Rattle.std.specs.Option.{option_flatten, option_map}
 use Rattle.db_model.specs.declared.database.Database.{Database}
 use Rattle.db_model.specs.declared.database.SectionDecl.{SectionDecl}
@@ -8,6 +8,7 @@ use Rattle.db_model.specs.declared.database.SumItem.TheVariants as item
 use Rattle.db_model.specs.declared.database.SumStruct.{SumStruct}
 use Rattle.db_model.specs.declared.database.SumTemplate.{SumTemplate}
 use Rattle.db_model.specs.Names.{Text, place}
+use Rattle.psml_out.specs.declared.summaries.Content.{Content}
 use Rattle.psml_out.specs.declared.summaries.Content.TheVariants as content
 use Rattle.psml_out.specs.declared.summaries.Piece.{Piece}
 use Rattle.psml_out.specs.declared.summaries.Summaries.{Summaries}
@@ -28,13 +29,25 @@ section_at declared name = place name (map (λ d. d.name) declared)
 
 -- ---- the pieces
 
--- the pieces of items where a section is the current one: a section makes another one current, and each other item adds a piece to the current one
+abbrev pub piece : ℕ → Content → Piece
+piece section content = record { section = section; content = content }
+
+-- what an item adds to the current section: a section adds nothing, each other item one piece
+abbrev pub item_pieces : ℕ → SumItem → List Piece
+item_pieces current (item.Section line name) = []
+item_pieces current (item.Text line value) = piece current (content.Text value) ∷ []
+item_pieces current (item.ProtoField line name) = piece current (content.Field name) ∷ []
+item_pieces current (item.PacketHdr line part) = piece current (content.Header part) ∷ []
+
+-- the section that is the current one behind an item
+abbrev pub section_behind : List SectionDecl → ℕ → SumItem → ℕ
+section_behind declared current (item.Section line name) = section_at declared name
+section_behind declared current other = current
+
+-- the pieces of items before which a section is the current one
 abbrev pub pieces : List SectionDecl → ℕ → List SumItem → List Piece
 pieces declared current [] = []
-pieces declared current (item.Section line name ∷ items) = pieces declared (section_at declared name) items
-pieces declared current (item.Text line value ∷ items) = record { section = current; content = content.Text value } ∷ pieces declared current items
-pieces declared current (item.ProtoField line name ∷ items) = record { section = current; content = content.Field name } ∷ pieces declared current items
-pieces declared current (item.PacketHdr line part ∷ items) = record { section = current; content = content.Header part } ∷ pieces declared current items
+pieces declared current (i ∷ items) = item_pieces current i ++ pieces declared (section_behind declared current i) items
 
 -- those of a template: at its start the first section is the current one
 abbrev pub template_pieces : List SectionDecl → SumTemplate → List Piece

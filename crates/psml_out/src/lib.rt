@@ -5,6 +5,7 @@
 
 mod last_field;
 mod packet;
+mod pieces;
 mod summaries;
 
 pub use packet::{closing, opening, packet_text, push_packet_text};

@@ -3,85 +3,13 @@ ghost use Rattle.std.specs.List.{flat_map};
 ghost use Rattle.show.specs.Labels.{labels_of};
 ghost use Rattle.show.specs.Markup.{escaped};
 ghost use Rattle.psml_out.specs.Psml;
-ghost use Rattle.psml_out.specs.Summaries.{sections, summaries_of};
+ghost use Rattle.psml_out.specs.Summaries.{summaries_of};
 
-use crate::last_field::last_field;
-use crate::summaries::{Content, Piece, Summaries, sections_of};
-use db_model::{CheckedDb, HeaderPart, NoMemory, Packet, PacketTree, Proto, SectionDecl};
-use show::{Labels, TextForm, push, push_field_shown, push_number, push_timestamp, push_written};
+use crate::pieces::push_proto;
+use crate::summaries::{Summaries, sections_of};
+use db_model::{CheckedDb, NoMemory, Packet, PacketTree, Proto, SectionDecl};
+use show::{Labels, TextForm, push, push_written};
 use std::alloc::Global;
-
-fn push_header(text: &mut Vec<u8>, packet: &Packet, part: HeaderPart) -> Result<(), NoMemory>
-    ensures { OnOk result (text.new.items ≡ text.old.items ++ escaped (Psml.header_part packet.now part)) }
-{
-    match part {
-        HeaderPart::Num => push_number(text, packet.number),
-        HeaderPart::Timestamp => push_timestamp(text, packet.stamp),
-        HeaderPart::Len => push_number(text, packet.bytes.as_slice().len() as u64),
-    }
-}
-
-/// Adds the last field of this name in a protocol of the tree as it is shown, nothing where there is none.
-fn push_last_field(
-    text: &mut Vec<u8>,
-    db: &CheckedDb,
-    labels: &Labels,
-    proto: &Proto,
-    name: &[u8],
-) -> Result<(), NoMemory>
-    requires { labels.now ≡ labels_of db.now }
-    ensures { OnOk result (text.new.items ≡
-        text.old.items ++ escaped (Psml.last_shown db.now proto.now name.now)) }
-{
-    match last_field(labels, proto.number, name, proto.nodes.as_slice()) {
-        Some(found) => {
-            let label = labels.field(proto.number, found.field);
-            push_field_shown(text, TextForm::Markup, db, label, found.value)
-        }
-        None => Ok(()),
-    }
-}
-
-fn push_content(
-    text: &mut Vec<u8>,
-    db: &CheckedDb,
-    labels: &Labels,
-    packet: &Packet,
-    proto: &Proto,
-    content: &Content,
-) -> Result<(), NoMemory>
-    requires { labels.now ≡ labels_of db.now }
-    ensures { OnOk result (text.new.items ≡
-        text.old.items ++ escaped (Psml.content_text db.now packet.now proto.now content.now)) }
-{
-    match content {
-        Content::Text(value) => push_written(text, TextForm::Markup, value.as_slice()),
-        Content::Field(name) => push_last_field(text, db, labels, proto, name.as_slice()),
-        Content::Header(part) => push_header(text, packet, *part),
-    }
-}
-
-/// Adds those of the pieces that are for the section of this number.
-fn push_pieces(
-    text: &mut Vec<u8>,
-    db: &CheckedDb,
-    labels: &Labels,
-    packet: &Packet,
-    proto: &Proto,
-    section: usize,
-    pieces: &[Piece],
-) -> Result<(), NoMemory>
-    requires { labels.now ≡ labels_of db.now }
-    ensures { OnOk result (text.new.items ≡
-        text.old.items ++ escaped (flat_map (Psml.piece_text db.now packet.now section proto.now) pieces.now)) }
-{
-    for piece in pieces {
-        if piece.section == section {
-            push_content(text, db, labels, packet, proto, &piece.content)?;
-        }
-    }
-    Ok(())
-}
 
 /// Adds the text of the section of this number.
 fn push_section_text(
@@ -99,8 +27,7 @@ fn push_section_text(
         text.old.items ++ escaped (Psml.section_text db.now packet.now tree.now section)) }
 {
     for proto in tree {
-        let pieces = summaries.pieces_of(proto.number);
-        push_pieces(text, db, labels, packet, proto, section, pieces)?;
+        push_proto(text, db, labels, summaries, packet, section, proto)?;
     }
     Ok(())
 }
@@ -138,7 +65,8 @@ fn push_sections(
     ensures { OnOk result (text.new.items ≡
         text.old.items ++ flat_map Psml.section_line (Psml.section_texts db.now packet.now tree.now)) }
 {
-    for section in 0..sections_of(db.database()).len() {
+    let count = sections_of(db.database()).len();
+    for section in 0..count {
         push_section(text, db, labels, summaries, packet, section, tree)?;
     }
     Ok(())

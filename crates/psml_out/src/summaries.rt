@@ -1,8 +1,7 @@
-ghost use Rattle.std.specs.Prelude.{◌≡◌, ◌++◌, ◌∷◌, List, slice_get, map, IfOk, OnOk};
+ghost use Rattle.std.specs.Prelude.{◌≡◌, ◌++◌, ◌∷◌, [], slice_get, map, IfOk, OnOk};
 ghost use Rattle.std.specs.Option.{option_flatten, option_map};
-ghost use Rattle.db_model.specs.declared.database.SumItem.{SumItem};
 ghost use Rattle.psml_out.specs.Summaries as naming;
-ghost use Rattle.psml_out.specs.Summaries.{pieces, sections, summaries_of, template_pieces, template_place};
+ghost use Rattle.psml_out.specs.Summaries.{item_pieces, piece, pieces, sections, summaries_of, template_pieces, template_place};
 
 use db_model::{
     Bytes, CheckedDb, Database, HeaderPart, Name, NoMemory, SectionDecl, Sequence, SumItem,
@@ -104,7 +103,7 @@ fn all_pieces(
     Ok(all)
 }
 
-/// The pieces of the items of a template, which begin with the first section.
+/// The pieces of the items of a template. At its start the first section is the current one.
 fn pieces_of_items(
     alloc: Global,
     declared: &[SectionDecl],
@@ -115,35 +114,41 @@ fn pieces_of_items(
     let mut all = Pieces::new(alloc);
     let mut current = 0;
     for item in items {
-        current = add_item(alloc, declared, item, current, &mut all)?;
+        add_item(alloc, item, current, &mut all)?;
+        current = section_behind(declared, current, item);
     }
     Ok(all)
 }
 
-/// Adds the piece of an item, and gives the section that is the current one behind it.
-fn add_item(
-    alloc: Global,
-    declared: &[SectionDecl],
-    item: &SumItem,
-    current: usize,
-    all: &mut Pieces,
-) -> Result<usize, NoMemory>
-    ensures { IfOk result (λ next. (rest : List SumItem) →
-        all.new ++ pieces declared.now next rest ≡ all.old ++ pieces declared.now current (item.now ∷ rest)) }
+/// The section that is the current one behind an item.
+fn section_behind(declared: &[SectionDecl], current: usize, item: &SumItem) -> usize
+    ensures { result ≡ naming.section_behind declared.now current item.now }
 {
-    let content = match item {
-        SumItem::Section { name, .. } => return Ok(place_of(name.as_slice(), declared)),
-        SumItem::Text { value, .. } => Content::Text(value.clone()?),
+    match item {
+        SumItem::Section { name, .. } => place_of(name.as_slice(), declared),
+        _ => current,
+    }
+}
+
+/// Adds the piece of an item, where it has one.
+fn add_item(alloc: Global, item: &SumItem, current: usize, all: &mut Pieces) -> Result<(), NoMemory>
+    ensures { OnOk result (all.new ≡ all.old ++ item_pieces current item.now) }
+{
+    match item {
+        SumItem::Section { .. } => Ok(()),
+        SumItem::Text { value, .. } => add_piece(all, current, Content::Text(value.clone()?)),
         SumItem::ProtoField { name, .. } => {
-            Content::Field(Name::copy_of(alloc, name.as_slice())?)
+            let name = Name::copy_of(alloc, name.as_slice())?;
+            add_piece(all, current, Content::Field(name))
         }
-        SumItem::PacketHdr { value, .. } => Content::Header(*value),
-    };
-    all.push(Piece {
-        section: current,
-        content,
-    })?;
-    Ok(current)
+        SumItem::PacketHdr { value, .. } => add_piece(all, current, Content::Header(*value)),
+    }
+}
+
+fn add_piece(all: &mut Pieces, section: usize, content: Content) -> Result<(), NoMemory>
+    ensures { OnOk result (all.new ≡ all.old ++ piece section content ∷ []) }
+{
+    all.push(Piece { section, content })
 }
 
 fn template_places(alloc: Global, database: &Database) -> Result<Sequence<Option<usize>>, NoMemory>
