@@ -40,6 +40,7 @@ pub struct Summaries {
 }
 
 impl Summaries {
+    /// Made once for a database, before any packet.
     #[tactic(auto, unfolding(crate::specs::Summaries::summaries_of))]
     pub fn of(alloc: Global, db: &CheckedDb) -> Result<Summaries, NoMemory>
         ensures { IfOk result (λ s. s ≡ summaries_of db.now) }
