@@ -1,7 +1,7 @@
 -- The last field of a name, found from the end on.
-use Rattle.std.specs.Prelude.{◌≡◌, ℕ, ◌+◌, ◌<◌, Bool, true, false, if◌then◌else◌, List, [], ◌∷◌, ◌++◌, length, take, Option, Some, None}
-use Rattle.std.specs.List.{filter, flat_map, last_or}
-use Rattle.std.proofs.Common.{refl, sym, ap, ◌∙◌, append-nil}
+use Rattle.std.specs.Prelude.{◌≡◌, ℕ, ◌+◌, ◌-◌, ◌<◌, ◌≤◌, Bool, true, false, if◌then◌else◌, List, [], ◌∷◌, ◌++◌, length, take, Option, Some, None}
+use Rattle.std.specs.List.{filter, last_or}
+use Rattle.std.proofs.Common.{refl, sym, ap, ◌∙◌, arith, append-nil}
 use Rattle.std.proofs.Math.ListN.{get_or}
 use Rattle.std.proofs.lemmas.Grind.{flat_map-append}
 use Rattle.std.proofs.lemmas.List.{take_more}
@@ -46,15 +46,21 @@ module _ (labels : List ProtocolLabels) (q : ℕ) (name : Text) where
       ∙ ap (last_or None) (filter-append (has_name labels q name) (fields_in (take i nodes)) (fields_in_node n))
       ∙ last-append None (filter (has_name labels q name) (fields_in (take i nodes))) (filter (has_name labels q name) (fields_in_node n))
 
-  -- a node that has none of the name
-  pub passed : (nodes : List Node) (i : ℕ) (n : Node) (all : Option Field) → i < length nodes → n ≡ get_or nodes i n → last_field labels q name (take (i + 1) nodes) ≡ all → last_in_node labels q name n ≡ None → last_field labels q name (take i nodes) ≡ all
-  passed nodes i n all within is e none =
-      sym (last_nowhere (last_field labels q name (take i nodes)) (filter (has_name labels q name) (fields_in_node n)) none) ∙ sym (one_more nodes i n within is) ∙ e
+  -- the same for the last of so many nodes
+  last_one : (nodes : List Node) (i : ℕ) (n : Node) → 0 < i → i ≤ length nodes → n ≡ get_or nodes (i - 1) n → last_field labels q name (take i nodes) ≡ last_or (last_field labels q name (take (i - 1) nodes)) (filter (has_name labels q name) (fields_in_node n))
+  last_one nodes i n some within is =
+      let on : i ≡ i - 1 + 1 = omega arith in
+      ap (λ (k : ℕ). last_field labels q name (take k nodes)) on ∙ one_more nodes (i - 1) n (omega arith) is
 
-  -- a node that has one
-  pub met : (nodes : List Node) (i : ℕ) (n : Node) (found : Field) (all : Option Field) → i < length nodes → n ≡ get_or nodes i n → last_field labels q name (take (i + 1) nodes) ≡ all → last_in_node labels q name n ≡ Some found → Some found ≡ all
-  met nodes i n found all within is e some =
-      sym (last_there (last_field labels q name (take i nodes)) found (filter (has_name labels q name) (fields_in_node n)) some) ∙ sym (one_more nodes i n within is) ∙ e
+  -- it has none of the name
+  pub passed : (nodes : List Node) (i : ℕ) (n : Node) (all : Option Field) → 0 < i → i ≤ length nodes → n ≡ get_or nodes (i - 1) n → last_field labels q name (take i nodes) ≡ all → last_in_node labels q name n ≡ None → last_field labels q name (take (i - 1) nodes) ≡ all
+  passed nodes i n all some within is e none =
+      sym (last_nowhere (last_field labels q name (take (i - 1) nodes)) (filter (has_name labels q name) (fields_in_node n)) none) ∙ sym (last_one nodes i n some within is) ∙ e
+
+  -- it has one
+  pub met : (nodes : List Node) (i : ℕ) (n : Node) (found : Field) (all : Option Field) → 0 < i → i ≤ length nodes → n ≡ get_or nodes (i - 1) n → last_field labels q name (take i nodes) ≡ all → last_in_node labels q name n ≡ Some found → Some found ≡ all
+  met nodes i n found all some within is e there =
+      sym (last_there (last_field labels q name (take (i - 1) nodes)) found (filter (has_name labels q name) (fields_in_node n)) there) ∙ sym (last_one nodes i n some within is) ∙ e
 
   -- ---- in a node
 

@@ -1,3 +1,3 @@
 pub mod Escaping
 pub mod LastField
-pub mod SectionPieces
+pub mod SectionLines
