@@ -23,6 +23,7 @@ fn is_named(label: Option<&FieldLabel>, name: &[u8]) -> bool
 
 /// The last field of this name among nodes of the protocol of this number, those in blocks included.
 #[cycle(last_field)]
+#[tactic(auto, using(crate::proofs::LastField::met, crate::proofs::LastField::passed))]
 pub fn last_field<'a>(
     labels: &Labels,
     protocol: u16,

@@ -4,12 +4,6 @@ use Rattle.psml_out.specs.Fields.{seen, last_field}
 use Rattle.psml_out.proofs.LastField.{passed, met, field_named, field_other, in_block, in_note}
 use Rattle.psml_out.proofs.last_field.+last_field.Goals as goal
 
-pub last_field-returns-in-Some : goal.last_field-returns-in-Some
-last_field-returns-in-Some t c = met c.args.labels.now c.args.protocol c.args.name.now c.args.nodes.now c.loop-i.i _ (seen c.in-Some.found) _ (omega arith) (omega arith) c.index-nodes-i.is c.loop-i.invariant (sym c.in-Some.ensures)
-
-pub last_field-loop-i-preserved : goal.last_field-loop-i-preserved
-last_field-loop-i-preserved t c = passed c.args.labels.now c.args.protocol c.args.name.now c.args.nodes.now c.loop-i.i _ _ (omega arith) (omega arith) c.index-nodes-i.is c.loop-i.invariant (sym c.in_default.ensures)
-
 pub last_in_node-returns-then-is_named : goal.last_in_node-returns-then-is_named
 last_in_node-returns-then-is_named t c =
     ap (λ (v : List ℕ). Rattle.std.proofs.Common.Some (c.in-Field.field, v)) c.as_slice.ensures.bytes
