@@ -1,19 +1,11 @@
--- Texts that are written in parts, and digits, which are no signs of the markup.
+-- Digits are no signs of the markup, and neither is the point between them.
 use Rattle.std.specs.Prelude.{◌≡◌, ℕ, zero, suc, ◌+◌, ◌/◌, ◌%◌, ◌^◌, ◌<◌, ◌≤◌, List, [], ◌∷◌, ◌++◌, drop, codes, decimal}
-use Rattle.std.specs.List.{flat_map}
-use Rattle.std.proofs.Common.{refl, sym, ap, ◌∙◌, arith}
+use Rattle.std.proofs.Common.{refl, ap, ◌∙◌, arith}
 use Rattle.std.proofs.lemmas.Fmt.{decimal_by_steps}
-use Rattle.std.proofs.lemmas.Grind.{flat_map-append}
 use Rattle.show.specs.Markup.{entity, escaped}
 use Rattle.show.specs.Stamps.{timestamp}
 
--- parts that are escaped one by one
-pub escaped_parts : {X : Type 0} (f : X → List ℕ) (xs : List X) → flat_map (λ x. escaped (f x)) xs ≡ escaped (flat_map f xs)
-escaped_parts f [] = refl
-escaped_parts f (x ∷ xs) = ap (λ (l : List ℕ). escaped (f x) ++ l) (escaped_parts f xs) ∙ sym (flat_map-append entity (f x) (flat_map f xs))
-
--- ---- texts without signs of the markup
-
+-- texts without signs of the markup
 abbrev pub IsPlain : List ℕ → Type 0
 IsPlain [] = Unit {0}
 IsPlain (b ∷ bs) = (entity b ≡ b ∷ []) × IsPlain bs

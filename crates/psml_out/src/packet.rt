@@ -12,6 +12,7 @@ use show::{Labels, TextForm, push, push_written};
 use std::alloc::Global;
 
 /// Adds the text of the section of this number.
+#[tactic(auto, unfolding(crate::specs::Psml::section_text))]
 fn push_section_text(
     text: &mut Vec<u8>,
     db: &CheckedDb,
@@ -52,6 +53,7 @@ fn push_section(
     push(text, b"</section>\n")
 }
 
+#[tactic(auto, using(crate::proofs::SectionLines::one_more))]
 fn push_sections(
     text: &mut Vec<u8>,
     db: &CheckedDb,

@@ -11,12 +11,14 @@ use crate::summaries::{Content, Piece, Summaries};
 use db_model::{CheckedDb, HeaderPart, NoMemory, Packet, Proto, Stamp};
 use show::{Labels, TextForm, push_field_shown, push_number, push_timestamp, push_written};
 
+#[tactic(auto, using(crate::proofs::Escaping::escaped_decimal))]
 fn push_digits(text: &mut Vec<u8>, number: u64) -> Result<(), NoMemory>
     ensures { OnOk result (text.new.items ≡ text.old.items ++ escaped (decimal number)) }
 {
     push_number(text, number)
 }
 
+#[tactic(auto, using(crate::proofs::Escaping::escaped_timestamp))]
 fn push_moment(text: &mut Vec<u8>, stamp: Stamp) -> Result<(), NoMemory>
     ensures { OnOk result (text.new.items ≡ text.old.items ++ escaped (timestamp stamp)) }
 {

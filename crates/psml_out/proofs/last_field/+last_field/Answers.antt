@@ -1,7 +1,7 @@
 use Rattle.std.proofs.Common.{◌≡◌, ℕ, List, ap, sym, ◌∙◌, arith}
 use Rattle.std.specs.Option.{option_copied}
-use Rattle.psml_out.specs.Fields.{seen, last_field}
-use Rattle.psml_out.proofs.LastField.{passed, met, field_named, field_other, in_block, in_note}
+use Rattle.psml_out.specs.Fields.{last_field}
+use Rattle.psml_out.proofs.LastField.{field_named, field_other, in_block, in_note}
 use Rattle.psml_out.proofs.last_field.+last_field.Goals as goal
 
 pub last_in_node-returns-then-is_named : goal.last_in_node-returns-then-is_named
