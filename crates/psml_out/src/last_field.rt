@@ -41,6 +41,7 @@ pub fn last_field<'a>(
 }
 
 #[cycle(last_field)]
+#[tactic(auto, using(crate::proofs::LastField::field_named, crate::proofs::LastField::field_other, crate::proofs::LastField::in_block, crate::proofs::LastField::in_note))]
 fn last_in_node<'a>(
     labels: &Labels,
     protocol: u16,
