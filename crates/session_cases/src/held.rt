@@ -50,7 +50,12 @@ fn is_entry(alloc: Global, entry: &Entry, wanted: &str) -> Option<bool> {
     let (hit, rest) = rest.split_once(' ')?;
     let (deadline, row) = rest.split_once(' ')?;
     let is_kept = is_deadline(entry.deadline, deadline) && hit.parse::<u32>().ok()? == entry.hit;
-    Some(is_kept && kind == word(entry.validity) && has_keys(alloc, entry, keys) && is_row(alloc, &entry.row, row))
+    Some(
+        is_kept
+            && kind == word(entry.validity)
+            && has_keys(alloc, entry, keys)
+            && is_row(alloc, &entry.row, row),
+    )
 }
 
 fn is_deadline(deadline: Option<u64>, wanted: &str) -> bool {

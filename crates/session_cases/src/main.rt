@@ -70,22 +70,14 @@ fn checked(alloc: Global, text: &[u8]) -> Option<CheckedDb> {
     }
 }
 
-fn by_database(
-    rt: &(impl AllocGlobal + Print),
-    db: &CheckedDb,
-    text: &str,
-) -> io::Result<bool> {
+fn by_database(rt: &(impl AllocGlobal + Print), db: &CheckedDb, text: &str) -> io::Result<bool> {
     match compile(rt.alloc(), db) {
         Ok(code) => all_hold(rt, db, &code, text),
         Err(_) => Ok(false),
     }
 }
 
-fn by_text(
-    rt: &(impl AllocGlobal + Print),
-    database: &[u8],
-    text: &str,
-) -> io::Result<bool> {
+fn by_text(rt: &(impl AllocGlobal + Print), database: &[u8], text: &str) -> io::Result<bool> {
     match checked(rt.alloc(), database) {
         Some(db) => by_database(rt, &db, text),
         None => Ok(false),

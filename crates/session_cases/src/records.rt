@@ -53,8 +53,7 @@ fn recorded<L: Ledger>(
     }
 }
 
-/// `check PACKET: WANTED`: the packet is recorded over the view, and what was asked is asked again of the session, or
-/// rather of a copy.
+/// `check PACKET: WANTED`: the packet is recorded over the view, and the log is checked against the session.
 pub fn checks(
     alloc: Global,
     db: &CheckedDb,
