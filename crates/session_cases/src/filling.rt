@@ -30,6 +30,7 @@ pub fn refills(alloc: Global, db: &CheckedDb, session: &mut Session, part: &str)
     Some(())
 }
 
+#[tactic(auto, using(crate::proofs::EmptyTables::has_room, crate::proofs::EmptyTables::is_apart))]
 fn filled(alloc: Global, db: &CheckedDb, masked: bool, entry: &Entry) -> Option<Session>
     requires { fits_in db.now 0 masked entry.now ≡ true }
     ensures { IfSome result (λ s. s.database ≡ db.now) }

@@ -32,7 +32,8 @@ fn holds(
 ) -> io::Result<bool>
     requires { IsCodeOf db.now code.now }
 {
-    let (head, rest) = lines.split_once('\n').unwrap_or((lines, ""));
+    // (a case without lines has its head as its only one, which is none that holds)
+    let (head, rest) = lines.split_once('\n').unwrap_or((lines, lines));
     match first_wrong(rt.alloc(), db, code, rest) {
         Some(line) => {
             println!(rt; "{head}: {line}")?;
