@@ -7,11 +7,10 @@ use Rattle.db_model.specs.declared.database.TableDecl.{TableDecl}
 use Rattle.db_model.specs.declared.entry.Entry.{Entry}
 use Rattle.db_model.specs.Session.{Session, declared}
 use Rattle.db_model.specs.Table.{empty, same_place}
-use Rattle.session.specs.Entries.{part_of, part_in, limit_of, limit_in}
-use Rattle.table_list.specs.Lists.{part, limit}
+use Rattle.session.specs.Entries.{part_of, part_in, limit_in}
 
 -- no part of a table to which nothing was added has an entry
-part_empty : (masked : Bool) → part masked empty ≡ []
+part_empty : (masked : Bool) → part_of masked (Some empty) ≡ []
 part_empty false = refl
 part_empty true = refl
 
@@ -24,9 +23,8 @@ parts_empty masked (d ∷ ds) (suc n) = parts_empty masked ds n
 new_part : (db : Database) (s : Session) (masked : Bool) → s ≡ declared db → part_in s 0 masked ≡ []
 new_part db s masked is = ap (λ s. part_in s 0 masked) is ∙ parts_empty masked db.tables 0
 
-pub has_room : (db : Database) (s : Session) (d : TableDecl) (masked : Bool) → s ≡ declared db → slice_get db.tables 0 ≡ Some d → 0 < limit masked d → length (part_in s 0 masked) < limit_in db 0 masked
-has_room db s d masked is at some =
-    subst (λ n. n < limit_in db 0 masked) (sym (ap length (new_part db s masked is))) (subst (λ m. 0 < m) (sym (ap (limit_of masked) at)) some)
+pub has_room : (db : Database) (s : Session) (masked : Bool) → s ≡ declared db → 0 < limit_in db 0 masked → length (part_in s 0 masked) < limit_in db 0 masked
+has_room db s masked is some = subst (λ n. n < limit_in db 0 masked) (sym (ap length (new_part db s masked is))) some
 
 pub is_apart : (db : Database) (s : Session) (e : Entry) (masked : Bool) → s ≡ declared db → list_any (same_place e) (part_in s 0 masked) ≡ false
 is_apart db s e masked is = ap (list_any (same_place e)) (new_part db s masked is)

@@ -2,7 +2,7 @@ ghost use Rattle.std.specs.Prelude.{◌≡◌};
 ghost use Rattle.pdl_code.specs.Does.{IsCodeOf};
 
 use crate::decoding::decodes;
-use crate::filling::{lists, refills};
+use crate::filling::refills;
 use crate::held::holds_entry;
 use crate::records::{applies, checks};
 use db_model::CheckedDb;
@@ -83,7 +83,6 @@ fn takes(
         "check" => checks(alloc, db, code, session, view, rest),
         "apply" => applies(alloc, db, code, session, view, rest),
         "entry" => holds_entry(alloc, db, session, rest),
-        "list" => lists(alloc, db, session, rest),
         "refill" => refills(alloc, db, session, rest),
         "view" => views(session, view),
         "open" => opens(session, view),

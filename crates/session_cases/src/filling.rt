@@ -1,21 +1,19 @@
 ghost use Rattle.std.specs.Prelude.{◌≡◌, true, IfSome};
-ghost use Rattle.session.specs.Entries.{fits_in};
-ghost use Rattle.table_list.specs.Lists.{limit, part_fits};
+ghost use Rattle.session.specs.Entries.{fits_in, limit_in};
 
-use crate::held::{entry_at, is_masked, is_wanted};
-use db_model::{CheckedDb, Entry, Table, TableDecl};
+use crate::held::{entry_at, is_masked};
+use db_model::{CheckedDb, Entry};
 use session::Session;
 use std::alloc::Global;
-use table_list::ListTable;
 
-/// The most entries of a part of a table.
-fn limit(declaration: &TableDecl, masked: bool) -> u32
-    ensures { result ≡ limit masked declaration.now }
+/// The most entries of a part of the first table, 0 where there is no table.
+fn limit(db: &CheckedDb, masked: bool) -> u32
+    ensures { result ≡ limit_in db.now 0 masked }
 {
-    if masked {
-        declaration.mask_entries
-    } else {
-        declaration.exact_entries
+    match db.database().tables.get(0) {
+        Some(table) if masked => table.mask_entries,
+        Some(table) => table.exact_entries,
+        None => 0,
     }
 }
 
@@ -35,54 +33,11 @@ fn filled(alloc: Global, db: &CheckedDb, masked: bool, entry: &Entry) -> Option<
     requires { fits_in db.now 0 masked entry.now ≡ true }
     ensures { IfSome result (λ s. s.database ≡ db.now) }
 {
-    let declaration = db.database().tables.get(0)?;
-    if limit(declaration, masked) == 0 {
+    if limit(db, masked) == 0 {
         return None;
     }
     let mut session = Session::new(alloc, db).ok()?;
     session.reserve(1).ok()?;
     session.fill(0, masked, entry);
     Some(session)
-}
-
-/// `list PART: WANTED`: the first entry of this part of the session's first table is filled into a table alone, and is
-/// then the first of that part in a copy of this table.
-pub fn lists(alloc: Global, db: &CheckedDb, session: &Session, text: &str) -> Option<()>
-    requires { session.now.database ≡ db.now }
-{
-    let (part, wanted) = text.split_once(": ")?;
-    let masked = is_masked(part)?;
-    let entry = entry_at(db, session, masked, 0)??;
-    let found = listed(alloc, db, masked, &entry)?;
-    is_wanted(alloc, &found, wanted).then_some(())
-}
-
-fn listed(alloc: Global, db: &CheckedDb, masked: bool, entry: &Entry) -> Option<Option<Entry>>
-    requires { fits_in db.now 0 masked entry.now ≡ true }
-{
-    let declaration = db.database().tables.get(0)?;
-    let table = table_of(alloc, declaration, masked, entry)?;
-    in_copy(&table, masked)
-}
-
-fn table_of(
-    alloc: Global,
-    declaration: &TableDecl,
-    masked: bool,
-    entry: &Entry,
-) -> Option<ListTable>
-    requires { part_fits masked declaration.now entry.now ≡ true }
-{
-    if limit(declaration, masked) == 0 {
-        return None;
-    }
-    let mut table = ListTable::new(alloc, declaration).ok()?;
-    table.reserve(1).ok()?;
-    table.fill(masked, entry);
-    Some(table)
-}
-
-fn in_copy(table: &ListTable, masked: bool) -> Option<Option<Entry>> {
-    let copy = table.copy().ok()?;
-    copy.entry(masked, 0).ok()
 }

@@ -37,7 +37,7 @@ pub fn holds_entry(alloc: Global, db: &CheckedDb, session: &Session, text: &str)
 
 /// Whether an entry is the wanted one: `none`, or KEY or KEY/MASK, its kind, the seconds of a hit, its deadline in
 /// nanoseconds or `-`, and its value.
-pub fn is_wanted(alloc: Global, found: &Option<Entry>, wanted: &str) -> bool {
+fn is_wanted(alloc: Global, found: &Option<Entry>, wanted: &str) -> bool {
     match found {
         None => wanted == "none",
         Some(entry) => is_entry(alloc, entry, wanted).unwrap_or(false),
