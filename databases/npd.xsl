@@ -54,7 +54,7 @@ summary:hover { background: #eef3fb; }
 <xsl:for-each select=".//note"><span class="mark"> &#9888; <xsl:value-of select="@reason"/></span></xsl:for-each>
 </span>
 </summary>
-<xsl:apply-templates select="proto[@name != 'startproto' or node()]"/>
+<xsl:apply-templates select="proto[@name != 'startproto' or *]"/>
 </details>
 </xsl:template>
 
