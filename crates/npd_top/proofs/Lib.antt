@@ -1,10 +1,8 @@
-pub mod Causes
-pub mod Checks
-pub mod Complete
+pub mod Begun
 pub mod Ids
 pub mod Opening
 pub mod Outcomes
-pub mod Runs
-pub mod Texts
+pub mod PacketTexts
+pub mod Taking
 pub mod Told
 pub mod Turns
