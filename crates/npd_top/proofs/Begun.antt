@@ -1,9 +1,9 @@
 -- How named outputs are opened one after another, and what they have when open outputs took something.
-use Rattle.std.proofs.Common.{◌≡◌, ◌<◌, ℕ, List, [], ◌∷◌, ◌++◌, length, Option, Some, None, Ok, Err, refl, sym, ap, ◌∙◌, subst, IfSome, IsSome, append_assoc, append-nil}
+use Rattle.std.proofs.Common.{◌≡◌, ◌<◌, ℕ, List, [], ◌++◌, length, Option, Some, None, Ok, Err, refl, sym, ap, ◌∙◌, subst, IfSome, append_assoc, append-nil}
 use Rattle.std.specs.Prelude.{IsSomeAnd}
 use Rattle.std.specs.Io.KnownBytes.{append_known}
 use Rattle.npd_host.specs.declared.host.OutId.{OutId}
-use Rattle.npd_host.specs.Host.{Outputs, OpensOutput}
+use Rattle.npd_host.specs.Host.{Outputs}
 use Rattle.npd_top.specs.declared.job.OutputFiles.{OutputFiles}
 use Rattle.npd_top.specs.declared.sinks.Sinks.{Sinks}
 use Rattle.npd_top.specs.declared.status.Role.{Role}
@@ -12,9 +12,9 @@ use Rattle.npd_top.specs.declared.status.Status.{Status}
 use Rattle.npd_top.specs.declared.status.Status.TheVariants.{Done, Words, Open, Read, Write, Database, Capture, PacketLimit, NoMemory, Unbuilt}
 use Rattle.npd_top.specs.Jobs.{output_of}
 use Rattle.npd_top.specs.Outputs.{no_texts}
-use Rattle.npd_top.specs.Taken.{TookEach, TookFronts, TookParts, OpensNamed, OpensOutputs, AreGiven, name_of_sink, sink_name}
-use Rattle.npd_top.specs.Written.{sink_of, IsNoSink, AreApart, IsBegun, Begins, listed, names_of, BegunEach, WroteEach, WroteFronts, WrotePart, before_role}
-use Rattle.npd_top.proofs.Told.{told_all, told_map, told_here, none_is_some}
+use Rattle.npd_top.specs.Taken.{TookEach, TookFronts, TookParts, OpensNamed, OpensOutputs}
+use Rattle.npd_top.specs.Written.{sink_of, IsNoSink, AreApart, Begins, listed, BegunEach, WroteEach, WroteFronts, WrotePart, before_role}
+use Rattle.npd_top.proofs.Told.{told_all, told_map, none_is_some}
 
 -- ---- what they have
 
@@ -71,17 +71,6 @@ module _ (sinks : Sinks) (files : OutputFiles) (r s : Outputs) (begun : BegunEac
     fronts = wrote_fronts t text took.fronts;
     proper = begins_match (sink_of sinks failed) (output_of files failed) r s [] (0 < length (took.fronts.back failed)) (begun.begun failed) took.proper;
   }
-
-  -- the ids are given, and their names are those of the files
-  pub begun_given : AreGiven sinks s
-  begun_given role = given_by (sink_of sinks role) (output_of files role) (begun.begun role)
-    where
-      some : (name : Option (List ℕ)) (n : List ℕ) → name ≡ Some n → IsSome name
-      some name n e = cc
-      given_by : (o : Option OutId) (name : Option (List ℕ)) → Begins o name [] r s → IfSome o (λ sink. IsSome (s.name sink.0))
-      given_by None name b = tt
-      given_by (Some sink) None b = absurd b
-      given_by (Some sink) (Some n) b = some (s.name sink.0) n b.named
 
 -- ---- the opening
 
@@ -165,6 +154,7 @@ none_begun files r = record { opened = sym (append-nil r.opened); begun = begun;
     begun Psml = tt
     begun Trace = tt
     begun Out = tt
+
     apart : AreApart (sinks_of None None None)
     apart Db b d = tt
     apart Cap b d = tt
@@ -188,6 +178,7 @@ pdml_begun files k r s t before opens = record {
     begun Psml = tt
     begun Trace = tt
     begun Out = tt
+
     apart : AreApart (sinks_of k None None)
     apart Db b d = tt
     apart Cap b d = tt
@@ -200,6 +191,7 @@ pdml_begun files k r s t before opens = record {
     apart Psml b d = tt
     apart Trace b d = tt
     apart Out b d = tt
+
     none : (id : ℕ) → IsNoSink (sinks_of None None None) id
     none id Db = tt
     none id Cap = tt
@@ -207,6 +199,7 @@ pdml_begun files k r s t before opens = record {
     none id Psml = tt
     none id Trace = tt
     none id Out = tt
+
     others : (id : ℕ) → IsNoSink (sinks_of k None None) id → (t.name id ≡ r.name id) × (t.taken id ≡ r.taken id)
     others id h =
         let left = opens_other k Pdml files.pdml s t opens id (h Pdml) in
@@ -228,6 +221,7 @@ psml_begun files pdml k r s t before opens = record {
     begun Psml = begins_new k Psml files.psml s t opens r (fresh_before _ _ r s before)
     begun Trace = tt
     begun Out = tt
+
     apart : AreApart (sinks_of pdml k None)
     apart Db b d = tt
     apart Cap b d = tt
@@ -245,6 +239,7 @@ psml_begun files pdml k r s t before opens = record {
     apart Psml Out d = any_apart k
     apart Trace b d = tt
     apart Out b d = tt
+
     none : (id : ℕ) → IsNoSink (sinks_of pdml k None) id → IsNoSink (sinks_of pdml None None) id
     none id h Db = tt
     none id h Cap = tt
@@ -252,6 +247,7 @@ psml_begun files pdml k r s t before opens = record {
     none id h Psml = tt
     none id h Trace = tt
     none id h Out = tt
+
     others : (id : ℕ) → IsNoSink (sinks_of pdml k None) id → (t.name id ≡ r.name id) × (t.taken id ≡ r.taken id)
     others id h =
         let left = opens_other k Psml files.psml s t opens id (h Psml) in
@@ -273,6 +269,7 @@ trace_begun files pdml psml k r s t before opens = record {
     begun Psml = begins_still k Trace files.trace s t opens psml files.psml r (before.begun Psml)
     begun Trace = begins_new k Trace files.trace s t opens r (fresh_before _ _ r s before)
     begun Out = tt
+
     apart : AreApart (sinks_of pdml psml k)
     apart Db b d = tt
     apart Cap b d = tt
@@ -295,6 +292,7 @@ trace_begun files pdml psml k r s t before opens = record {
     apart Trace Trace d = absurd (d refl)
     apart Trace Out d = any_apart k
     apart Out b d = tt
+
     none : (id : ℕ) → IsNoSink (sinks_of pdml psml k) id → IsNoSink (sinks_of pdml psml None) id
     none id h Db = tt
     none id h Cap = tt
@@ -302,21 +300,12 @@ trace_begun files pdml psml k r s t before opens = record {
     none id h Psml = h Psml
     none id h Trace = tt
     none id h Out = tt
+
     others : (id : ℕ) → IsNoSink (sinks_of pdml psml k) id → (t.name id ≡ r.name id) × (t.taken id ≡ r.taken id)
     others id h =
         let left = opens_other k Trace files.trace s t opens id (h Trace) in
         let was = before.others id (none id h) in
         (left.0 ∙ was.0, left.1 ∙ was.1)
-
--- the name of a role's output is that of its file
-pub names_are : (sinks : Sinks) (files : OutputFiles) (r s : Outputs) → BegunEach sinks files r s no_texts → (role : Role) → sink_name sinks s role ≡ output_of files role
-names_are sinks files r s begun role = by (sink_of sinks role) (output_of files role) (begun.begun role)
-  where
-    by : (o : Option OutId) (name : Option (List ℕ)) → Begins o name [] r s → name_of_sink o s ≡ name
-    by None None b = refl
-    by None (Some n) b = absurd b
-    by (Some sink) None b = absurd b
-    by (Some sink) (Some n) b = b.named
 
 -- the opening of one gave up, and those before it are opened
 pub open_failed : (why : Status) (role : Role) (files : OutputFiles) (sinks : Sinks) (r s t : Outputs) → BegunEach sinks (before_role role files) r s no_texts → OpensNamed (Err why) role (output_of files role) s t → OpensOutputs (Err why) files r t

@@ -1,12 +1,12 @@
 -- What the whole outputs are, by how their packets ended and by the closings.
-use Rattle.std.proofs.Common.{◌≡◌, ◌⊎◌, inl, inr, ◌<◌, ◌≤◌, ◌+◌, ◌-◌, ℕ, zero, List, [], ◌∷◌, ◌++◌, length, take, Option, Some, None, Result, Ok, Err, refl, sym, ap, ◌∙◌, subst, IfSome, append_assoc, append-nil, arith}
+use Rattle.std.proofs.Common.{◌≡◌, inr, ◌≤◌, ◌+◌, ◌-◌, ℕ, List, [], ◌++◌, length, take, Result, Ok, Err, sym, ap, ◌∙◌, subst, append-nil, arith}
 use Rattle.std.proofs.Math.Seq.{take-append-add}
 use Rattle.std.proofs.lemmas.List.{take_all}
 use Rattle.db_model.specs.declared.database.Database as model
 use Rattle.db_model.specs.declared.packet.Packet.{Packet}
 use Rattle.db_laws.specs.Laws.{SerialFront}
-use Rattle.npd_host.specs.Host.{Inputs, Outputs, Gave}
-use Rattle.pcap_in.specs.Capture.{Seen, Whole, Broken, whole_end, broken_end, with_front}
+use Rattle.npd_host.specs.Host.{Inputs, Outputs}
+use Rattle.pcap_in.specs.Capture.{Seen, Whole, Broken, with_front}
 use Rattle.pcap_in.specs.Reader.{Reader, left}
 use Rattle.npd_top.specs.declared.job.OutputFiles.{OutputFiles}
 use Rattle.npd_top.specs.declared.sinks.Sinks.{Sinks}
@@ -15,12 +15,12 @@ use Rattle.npd_top.specs.declared.status.Role.TheVariants.{Db, Cap, Pdml, Psml, 
 use Rattle.npd_top.specs.declared.status.Status.{Status}
 use Rattle.npd_top.specs.declared.status.Status.TheVariants.{Done, Words, Open, Read, Write, Database, Capture, PacketLimit, NoMemory, Unbuilt}
 use Rattle.npd_top.specs.Outputs.{closing, open_texts, whole_texts, no_texts}
-use Rattle.npd_top.specs.Packets.{Standing, Ends, LeftIs, IsWhole, IsBroken, IsLimited, IsCut, OutputsAre, NamedAre}
+use Rattle.npd_top.specs.Packets.{Standing, Ends, LeftIs, IsWhole, IsBroken, IsLimited, OutputsAre, NamedAre}
 use Rattle.npd_top.specs.Taken.{TookEach, TookFronts, TookParts, FailsTexts, TakesTexts}
 use Rattle.npd_top.specs.Written.{sink_of, BegunEach, WroteEach, WroteFronts, WrotePart}
 use Rattle.npd_top.proofs.Begun.{wrote_each, wrote_fronts, wrote_part}
 use Rattle.npd_top.proofs.PacketTexts.{whole_text-front, whole_text-is}
-use Rattle.npd_top.proofs.Taking.{each_none, each_alike, each_then, fails_then, fronts_then, parts_then}
+use Rattle.npd_top.proofs.Taking.{each_none, each_alike, each_then, fronts_then, parts_then}
 use Rattle.npd_top.proofs.Told.{told_all, told_map}
 
 -- the first so many of these packets and others begin with these

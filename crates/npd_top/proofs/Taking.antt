@@ -1,5 +1,5 @@
 -- What open outputs took: nothing, one piece after another, fronts of them.
-use Rattle.std.proofs.Common.{◌≡◌, ◌<◌, ℕ, List, [], ◌++◌, length, Option, Some, None, Result, Ok, Err, refl, sym, ap, ◌∙◌, subst, IfSome, IsSome, append_assoc, append-nil, length-append, arith}
+use Rattle.std.proofs.Common.{◌≡◌, ◌<◌, ℕ, List, [], ◌++◌, length, Option, Some, None, Result, Ok, Err, refl, sym, ap, ◌∙◌, subst, IfSome, append_assoc, append-nil, length-append, arith}
 use Rattle.std.specs.Prelude.{IsSomeAnd}
 use Rattle.std.specs.Io.KnownBytes.{append_known}
 use Rattle.npd_host.specs.declared.host.HostFail.{HostFail}
@@ -15,7 +15,7 @@ use Rattle.npd_top.specs.declared.texts.Texts.{Texts}
 use Rattle.npd_top.specs.Causes.{refusal}
 use Rattle.npd_top.specs.Outputs.{no_texts}
 use Rattle.npd_top.specs.Taken.{TookEach, TookFronts, TookParts, FailsTexts, TakesTexts, only, bytes_of, HasTexts}
-use Rattle.npd_top.specs.Written.{sink_of, IsNoSink, AreApart}
+use Rattle.npd_top.specs.Written.{sink_of, AreApart}
 use Rattle.npd_top.proofs.Told.{told_all, told_map, told_both, told_here, match_map, none_is_some}
 
 append_known-nil : (taken : Option (List ℕ)) → taken ≡ append_known taken []

@@ -1,5 +1,5 @@
 -- What is said where something is told.
-use Rattle.std.proofs.Common.{◌≡◌, Option, Some, None, IfSome, sym, subst}
+use Rattle.std.proofs.Common.{◌≡◌, Option, Some, None, IfSome, subst}
 use Rattle.std.specs.Prelude.{IsSomeAnd}
 
 pub none_is_some : {A : Type 0} {a : A} → ◌≡◌ {A = Option A} None (Some a) → ⊥

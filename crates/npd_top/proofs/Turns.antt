@@ -1,11 +1,10 @@
 -- How turns, in each of which one packet was read, decoded and written, make up the whole.
-use Rattle.std.proofs.Common.{◌≡◌, ◌⊎◌, inl, inr, ⊎_elim, ◌<◌, ◌≤◌, ◌+◌, ◌-◌, ◌^◌, ℕ, suc, true, IsTrue, IsSome, List, [], ◌∷◌, ◌++◌, length, Option, Some, None, Result, Ok, Err, refl, sym, ap, ◌∙◌, subst, IfSome, min, append_assoc, append-nil, length-append, arith}
+use Rattle.std.proofs.Common.{◌≡◌, inr, ⊎_elim, ◌<◌, ◌+◌, ◌-◌, ◌^◌, ℕ, IsTrue, IsSome, List, [], ◌∷◌, ◌++◌, length, Option, Some, None, Result, Ok, Err, refl, sym, ap, ◌∙◌, subst, IfSome, min, append_assoc, append-nil, length-append, arith}
 use Rattle.db_model.specs.declared.database.Database as model
 use Rattle.db_model.specs.declared.packet.Packet.{Packet}
 use Rattle.db_model.specs.Decoding.{dec}
 use Rattle.db_model.specs.Session.{Session, declared}
 use Rattle.db_laws.specs.Laws.{SerialFront}
-use Rattle.npd_host.specs.declared.host.OutId.{OutId}
 use Rattle.npd_host.specs.Host.{Inputs, Outputs, Gave}
 use Rattle.npd_host.proofs.Transfers.{gave_none, gave_then}
 use Rattle.pcap_in.specs.declared.form.Form.{Form}
@@ -20,9 +19,9 @@ use Rattle.npd_top.specs.declared.status.Role.TheVariants.{Db, Cap, Pdml, Psml, 
 use Rattle.npd_top.specs.declared.status.Status.{Status}
 use Rattle.npd_top.specs.declared.status.Status.TheVariants.{Done, Words, Open, Read, Write, Database, Capture, PacketLimit, NoMemory, Unbuilt}
 use Rattle.npd_top.specs.CaptureRead.{ClosesWith, LimitIs, LimitTakes}
-use Rattle.npd_top.specs.Outputs.{opening, packet_text, open_text, openings, open_texts, no_texts}
+use Rattle.npd_top.specs.Outputs.{packet_text, open_text, openings, open_texts, no_texts}
 use Rattle.npd_top.specs.Packets.{Standing, texts_now, Follows, Passes, GivesUp, Closes, Stops, Turns, LeftIs, TakesOpen, Cut, Ends}
-use Rattle.npd_top.specs.Taken.{TookEach, TookFronts, TookParts, FailsTexts, AreGiven, name_of_sink, sink_name}
+use Rattle.npd_top.specs.Taken.{TookEach, TookFronts, TookParts, FailsTexts}
 use Rattle.npd_top.specs.Written.{sink_of}
 use Rattle.npd_top.proofs.PacketTexts.{session_after, session_more, open_text-none, open_text-more}
 use Rattle.npd_top.proofs.Taking.{each_alike, each_then, fails_alike, fronts_all, fronts_then, parts_then}
@@ -398,6 +397,27 @@ pub record Reached (db : model.Database) (sinks : Sinks) (count : ℕ) (a b : St
   pub counted : length packets ≡ count
   pub far : SoFar db sinks packets a b
 
+-- a packet was read, decoded and written
+pub passed_turn : (db : model.Database) (sinks : Sinks) (packet : Packet) (a b : Standing) (inputs : Inputs) → TookEach sinks a.outputs b.outputs (texts_now db sinks packet a)
+    → OnlyRead a.reader.id.0 a.inputs inputs (λ bytes. record_at a.reader.form a.reader.number (a.reader.kept ++ bytes) ≡ One packet [])
+    → IfSome (left a.reader a.inputs) (λ seen. (rest : Seen) × (left b.reader inputs ≡ Some rest) × (seen ≡ with_front (packet ∷ []) rest)) → b.inputs ≡ inputs
+    → b.reader ≡ record (moved_by packet a.reader) { kept = []; state = state.Reading } → b.session ≡ (dec db packet a.session).session → b.decoded ≡ a.decoded + 1 → (p : Packet) × Passes db sinks p a b
+passed_turn db sinks packet a b inputs took read sees same reader session decoded = (
+  packet,
+  record {
+    follows = record {
+      bytes = read.bytes;
+      gave = rw same read.gave;
+      is = read.taken;
+      sees = (let P : Inputs → Type 0 = λ i. IfSome (left a.reader a.inputs) (λ seen. (rest : Seen) × (left b.reader i ≡ Some rest) × (seen ≡ with_front (packet ∷ []) rest)) in subst P (sym same) sees);
+    };
+    reader = reader;
+    session = session;
+    took = took;
+    decoded = decoded;
+  },
+)
+
 -- a packet was read and decoded, and the writing of its text gave up with this status
 pub refused_turn : (db : model.Database) (sinks : Sinks) (why : Status) (packet : Packet) (a b : Standing) (after : Option Seen) (inputs : Inputs) → FailsTexts why sinks a.outputs b.outputs (texts_now db sinks packet a)
     → OnlyRead a.reader.id.0 a.inputs inputs (λ bytes. record_at a.reader.form a.reader.number (a.reader.kept ++ bytes) ≡ One packet [])
@@ -449,14 +469,3 @@ goes_on p old new e = rw e (refl, refl)
 
 pub named_still : (old new : ℕ → Option (List ℕ)) (id : ℕ) → new ≡ old → IsSome (old id) → IsSome (new id)
 named_still old new id e h = rw e h
-
-pub given_still : (sinks : Sinks) (old new : Outputs) → new.name ≡ old.name → AreGiven sinks old → AreGiven sinks new
-given_still sinks old new names given role = told_map (sink_of sinks role) (λ sink. IsSome (old.name sink.0)) (λ sink. IsSome (new.name sink.0)) (λ sink h. named_still old.name new.name sink.0 names h) (given role)
-
--- the names of the outputs stay
-pub sink_names : (sinks : Sinks) (old new : Outputs) → new.name ≡ old.name → (role : Role) → sink_name sinks new role ≡ sink_name sinks old role
-sink_names sinks old new names role = by (sink_of sinks role)
-  where
-    by : (o : Option OutId) → name_of_sink o new ≡ name_of_sink o old
-    by None = refl
-    by (Some sink) = ap (λ (f : ℕ → Option (List ℕ)). f sink.0) names

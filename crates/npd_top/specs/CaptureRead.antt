@@ -1,5 +1,5 @@
 -- What the opening of a capture and the reading of what follows in it come to.
-use Rattle.std.specs.Prelude.{◌≡◌, ◌<◌, ℕ, Bool, true, List, [], ◌∷◌, ◌++◌, length, Option, Some, None, Result, Ok, Err, IsTrue, IfSome}
+use Rattle.std.specs.Prelude.{◌≡◌, ◌<◌, ℕ, List, [], ◌∷◌, ◌++◌, length, Option, Some, None, Result, Ok, Err, IsTrue, IfSome}
 use Rattle.npd_host.specs.Host.{Inputs}
 use Rattle.pcap_in.specs.declared.form.Form.{Form}
 use Rattle.pcap_in.specs.declared.state.State.TheVariants as state
@@ -10,7 +10,7 @@ use Rattle.npd_top.specs.declared.capture.Following.{Following}
 use Rattle.npd_top.specs.declared.capture.Following.TheVariants.{Packet, End}
 use Rattle.npd_top.specs.declared.status.Role.TheVariants.{Cap}
 use Rattle.npd_top.specs.declared.status.Status.{Status}
-use Rattle.npd_top.specs.declared.status.Status.TheVariants.{Done, Open, Read, Capture, PacketLimit, NoMemory}
+use Rattle.npd_top.specs.declared.status.Status.TheVariants.{Done, Read, Capture, PacketLimit, NoMemory}
 use Rattle.npd_top.specs.DecodeRun.{GaveOf}
 
 -- ---- the opening

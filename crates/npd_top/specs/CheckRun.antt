@@ -1,5 +1,5 @@
 -- What a check comes to: which status comes where, which files are opened, and what the output has taken then.
-use Rattle.std.specs.Prelude.{◌≡◌, ◌⊎◌, ℕ, List, [], ◌∷◌, ◌++◌, length, codes, decimal, IfSome}
+use Rattle.std.specs.Prelude.{◌⊎◌, ℕ, List, [], ◌∷◌, ◌++◌, length, codes, decimal, IfSome}
 use Rattle.db_model.specs.declared.database.Database as model
 use Rattle.npd_top.specs.declared.job.CheckFiles.{CheckFiles}
 use Rattle.npd_top.specs.declared.status.Role.TheVariants.{Db, Out}

@@ -73,7 +73,7 @@ module _ (files : DecodeFiles) (before after : Outside) where
   IsCut db bytes =
       (given : List ℕ) × GaveOf files.cap before.inputs after.inputs bytes given
       × ByHeader (capture.header given) (WroteNothing before after)
-          (WroteEach files.outputs before.outputs after.outputs (open_texts db (capture.cap given).packets))
+      (WroteEach files.outputs before.outputs after.outputs (open_texts db (capture.cap given).packets))
 
   -- each output has taken a front of its whole text, and that of this role, which is one of them, a proper one
   abbrev pub HasProperFront : Role → model.Database → List ℕ → Type 0

@@ -1,5 +1,5 @@
 -- What open outputs take of the texts of their roles, and how they are opened.
-use Rattle.std.specs.Prelude.{◌≡◌, ◌<◌, ℕ, List, [], ◌∷◌, ◌++◌, length, Option, Some, None, Result, Ok, Err, IfSome, IsSome, IsSomeAnd}
+use Rattle.std.specs.Prelude.{◌≡◌, ◌<◌, ℕ, List, [], ◌++◌, length, Option, Some, None, Result, Ok, Err, IfSome, IsSome, IsSomeAnd}
 use Rattle.std.specs.Io.KnownBytes.{append_known}
 use Rattle.npd_host.specs.declared.host.OutId.{OutId}
 use Rattle.npd_host.specs.Host.{Inputs, Outputs, Gave, OpensOutput}
@@ -52,17 +52,17 @@ only Trace text Trace = text Trace
 only role text other = []
 
 -- a host gave each of these ids
-abbrev pub AreGiven : Sinks → Outputs → Type 0
-AreGiven sinks outputs = (role : Role) → IfSome (sink_of sinks role) (λ sink. IsSome (outputs.name sink.0))
+abbrev pub AreGiven : Sinks → (ℕ → Option (List ℕ)) → Type 0
+AreGiven sinks name = (role : Role) → IfSome (sink_of sinks role) (λ sink. IsSome (name sink.0))
 
 -- the name of the output of an id
-abbrev pub name_of_sink : Option OutId → Outputs → Option (List ℕ)
-name_of_sink None outputs = None
-name_of_sink (Some sink) outputs = outputs.name sink.0
+abbrev pub name_of_sink : Option OutId → (ℕ → Option (List ℕ)) → Option (List ℕ)
+name_of_sink None name = None
+name_of_sink (Some sink) name = name sink.0
 
 -- the name of the output of a role
-abbrev pub sink_name : Sinks → Outputs → Role → Option (List ℕ)
-sink_name sinks outputs role = name_of_sink (sink_of sinks role) outputs
+abbrev pub sink_name : Sinks → (ℕ → Option (List ℕ)) → Role → Option (List ℕ)
+sink_name sinks name role = name_of_sink (sink_of sinks role) name
 
 -- an open input gave some bytes, and nothing else changed
 pub record GaveSome (id : ℕ) (old new : Inputs) : Type 0 where

@@ -91,14 +91,7 @@ impl Engine {
             return Ok(());
         }
         text.clear();
-        psml_out::push_packet_text(
-            text,
-            &self.db,
-            &self.labels,
-            &self.summaries,
-            packet,
-            tree,
-        )
+        psml_out::push_packet_text(text, &self.db, &self.labels, &self.summaries, packet, tree)
     }
 
     /// Puts the texts of a packet with its tree into the buffers of the outputs that are named.

@@ -58,7 +58,8 @@ pub fn job_of(plan: Plan) -> Option<Job>
             max,
         })),
         Plan::Decode {
-            report: Some(_), ..
+            report: Some(_),
+            ..
         } => None,
         Plan::Check { db } => Some(Job::Check(CheckFiles { db })),
         Plan::Gen { .. } => None,

@@ -13,12 +13,12 @@ use npd_host::{Host, write_all};
 
 /// Writes the piece of one role, where it has an output.
 fn write_piece<H: Host>(host: &mut H, sinks: Sinks, role: Role, texts: &Texts) -> Result<(), Status>
-    requires given { AreGiven sinks (H.outputs host.old) }
+    requires given { AreGiven sinks (H.outputs host.old).name }
     requires apart { AreApart sinks }
     ensures takes { TakesTexts result sinks (H.outputs host.old) (H.outputs host.new)
         (only role (bytes_of texts.now)) }
     ensures frame { MovesOutputsOnly H.inputs H.files H.faults host.old host.new }
-    ensures cause { IfErr result (HasWriteCause (sink_name sinks (H.outputs host.old))
+    ensures cause { IfErr result (HasWriteCause (sink_name sinks (H.outputs host.old).name)
         (H.faults host.old) (H.faults host.new)) }
 {
     let Some(id) = sinks.of(role) else {
@@ -32,12 +32,12 @@ fn write_piece<H: Host>(host: &mut H, sinks: Sinks, role: Role, texts: &Texts) -
 
 /// Writes the piece of each role, in the order PDML, PSML, trace.
 pub fn write_texts<H: Host>(host: &mut H, sinks: Sinks, texts: &Texts) -> Result<(), Status>
-    requires given { AreGiven sinks (H.outputs host.old) }
+    requires given { AreGiven sinks (H.outputs host.old).name }
     requires apart { AreApart sinks }
     ensures takes { TakesTexts result sinks (H.outputs host.old) (H.outputs host.new)
         (bytes_of texts.now) }
     ensures frame { MovesOutputsOnly H.inputs H.files H.faults host.old host.new }
-    ensures cause { IfErr result (HasWriteCause (sink_name sinks (H.outputs host.old))
+    ensures cause { IfErr result (HasWriteCause (sink_name sinks (H.outputs host.old).name)
         (H.faults host.old) (H.faults host.new)) }
 {
     write_piece(host, sinks, Role::Pdml, texts)?;

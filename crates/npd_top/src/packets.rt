@@ -37,12 +37,12 @@ fn write_openings<H: Host>(
     engine: &Engine,
     texts: &mut Texts,
 ) -> Result<(), Status>
-    requires given { AreGiven sinks (H.outputs host.old) }
+    requires given { AreGiven sinks (H.outputs host.old).name }
     requires apart { AreApart sinks }
     ensures takes { TakesTexts result sinks (H.outputs host.old) (H.outputs host.new)
         (openings engine.now.db) }
     ensures frame { MovesOutputsOnly H.inputs H.files H.faults host.old host.new }
-    ensures cause { IfErr result (HasWriteCause (sink_name sinks (H.outputs host.old))
+    ensures cause { IfErr result (HasWriteCause (sink_name sinks (H.outputs host.old).name)
         (H.faults host.old) (H.faults host.new)) }
 {
     match engine.put_openings(alloc, sinks, texts) {
@@ -62,11 +62,11 @@ fn put_closings(sinks: Sinks, texts: &mut Texts) -> Result<(), NoMemory>
 
 /// Writes the closings.
 fn write_closings<H: Host>(host: &mut H, sinks: Sinks, texts: &mut Texts) -> Result<(), Status>
-    requires given { AreGiven sinks (H.outputs host.old) }
+    requires given { AreGiven sinks (H.outputs host.old).name }
     requires apart { AreApart sinks }
     ensures takes { TakesTexts result sinks (H.outputs host.old) (H.outputs host.new) closing }
     ensures frame { MovesOutputsOnly H.inputs H.files H.faults host.old host.new }
-    ensures cause { IfErr result (HasWriteCause (sink_name sinks (H.outputs host.old))
+    ensures cause { IfErr result (HasWriteCause (sink_name sinks (H.outputs host.old).name)
         (H.faults host.old) (H.faults host.new)) }
 {
     match put_closings(sinks, texts) {
@@ -88,7 +88,7 @@ fn write_packet<H: Host, A: Answers, L: Ledger>(
 ) -> Result<(), Status>
     requires ready { IsReady engine.now }
     requires database { A.database answers.old ≡ engine.now.db }
-    requires given { AreGiven sinks (H.outputs host.old) }
+    requires given { AreGiven sinks (H.outputs host.old).name }
     requires apart { AreApart sinks }
     requires time { packet.now.stamp < STAMP_END }
     ensures takes { TakesTexts result sinks (H.outputs host.old) (H.outputs host.new)
@@ -99,7 +99,7 @@ fn write_packet<H: Host, A: Answers, L: Ledger>(
         ≡ (dec engine.now.db packet.now (A.content answers.old)).session) }
     ensures steps { steps.new ≡ steps.old + 1 }
     ensures frame { MovesOutputsOnly H.inputs H.files H.faults host.old host.new }
-    ensures cause { IfErr result (HasWriteCause (sink_name sinks (H.outputs host.old))
+    ensures cause { IfErr result (HasWriteCause (sink_name sinks (H.outputs host.old).name)
         (H.faults host.old) (H.faults host.new)) }
 {
     match engine.decode(alloc, packet, answers, steps, sinks, texts) {
@@ -124,7 +124,7 @@ fn pass_packet<H: Host, A: Answers, L: Ledger>(
     requires database { A.database answers.old ≡ engine.now.db }
     requires usable { IsTrue (is_usable reader.old.state) }
     requires input { IsSome ((H.inputs host.old).name reader.old.id.0) }
-    requires output { AreGiven sinks (H.outputs host.old) }
+    requires output { AreGiven sinks (H.outputs host.old).name }
     requires apart { AreApart sinks }
     requires reach { InReach reader.old (H.inputs host.old) }
     ensures turns { Turns engine.now.db sinks result
@@ -135,13 +135,11 @@ fn pass_packet<H: Host, A: Answers, L: Ledger>(
     ensures files { H.files host.new ≡ H.files host.old }
     ensures later { NoneFalls (H.faults host.old) (H.faults host.new) }
     ensures cause { IfErr result (HasPacketsCause ((H.inputs host.old).name reader.old.id.0)
-        (sink_name sinks (H.outputs host.old)) (H.faults host.old) (H.faults host.new)) }
+        (sink_name sinks (H.outputs host.old).name) (H.faults host.old) (H.faults host.new)) }
 {
     match next_packet(host, reader)? {
         Following::Packet(packet) => {
-            write_packet(
-                alloc, host, sinks, engine, answers, &packet, steps, texts,
-            )?;
+            write_packet(alloc, host, sinks, engine, answers, &packet, steps, texts)?;
             Ok(None)
         }
         Following::End(status) => Ok(Some(status)),
@@ -168,7 +166,7 @@ fn write_packets<H: Host, A: Answers, L: Ledger>(
     requires reading { IsTrue (is_reading reader.state) }
     requires usable { IsTrue (is_usable reader.state) }
     requires input { IsSome ((H.inputs host.old).name reader.id.0) }
-    requires output { AreGiven sinks (H.outputs host.old) }
+    requires output { AreGiven sinks (H.outputs host.old).name }
     requires apart { AreApart sinks }
     requires reach { InReach reader (H.inputs host.old) }
     requires session { A.content answers.old ≡ declared engine.now.db }
@@ -178,7 +176,7 @@ fn write_packets<H: Host, A: Answers, L: Ledger>(
     ensures files { H.files host.new ≡ H.files host.old }
     ensures later { NoneFalls (H.faults host.old) (H.faults host.new) }
     ensures cause { IfErr result (HasPacketsCause ((H.inputs host.old).name reader.id.0)
-        (sink_name sinks (H.outputs host.old)) (H.faults host.old) (H.faults host.new)) }
+        (sink_name sinks (H.outputs host.old).name) (H.faults host.old) (H.faults host.new)) }
 {
     serial_front();
     fronts_tell();
@@ -219,7 +217,7 @@ fn write_output<H: Host, A: Answers, L: Ledger>(
     requires reading { IsTrue (is_reading reader.state) }
     requires usable { IsTrue (is_usable reader.state) }
     requires input { IsSome ((H.inputs host.old).name reader.id.0) }
-    requires output { AreGiven sinks (H.outputs host.old) }
+    requires output { AreGiven sinks (H.outputs host.old).name }
     requires apart { AreApart sinks }
     requires reach { InReach reader (H.inputs host.old) }
     requires session { A.content answers.old ≡ declared engine.now.db }
@@ -233,7 +231,7 @@ fn write_output<H: Host, A: Answers, L: Ledger>(
     ensures files { H.files host.new ≡ H.files host.old }
     ensures later { NoneFalls (H.faults host.old) (H.faults host.new) }
     ensures cause { HasPacketsCause ((H.inputs host.old).name reader.id.0)
-        (sink_name sinks (H.outputs host.old)) (H.faults host.old) (H.faults host.new) result }
+        (sink_name sinks (H.outputs host.old).name) (H.faults host.old) (H.faults host.new) result }
 {
     serial_front();
     match write_packets(
@@ -265,7 +263,7 @@ fn write_counted<H: Host, A: Answers, L: Ledger>(
     requires reading { IsTrue (is_reading reader.state) }
     requires usable { IsTrue (is_usable reader.state) }
     requires input { IsSome ((H.inputs host.old).name reader.id.0) }
-    requires output { AreGiven sinks (H.outputs host.old) }
+    requires output { AreGiven sinks (H.outputs host.old).name }
     requires apart { AreApart sinks }
     requires reach { InReach reader (H.inputs host.old) }
     requires session { A.content answers.old ≡ declared engine.now.db }
@@ -282,7 +280,7 @@ fn write_counted<H: Host, A: Answers, L: Ledger>(
     ensures files { H.files host.new ≡ H.files host.old }
     ensures later { NoneFalls (H.faults host.old) (H.faults host.new) }
     ensures cause { HasPacketsCause ((H.inputs host.old).name reader.id.0)
-        (sink_name sinks (H.outputs host.old)) (H.faults host.old) (H.faults host.new) result }
+        (sink_name sinks (H.outputs host.old).name) (H.faults host.old) (H.faults host.new) result }
 {
     let mut steps = Steps::<L>::begin(blank);
     let mut texts = Texts::new(alloc);

@@ -1,4 +1,4 @@
-use Rattle.std.proofs.Common.{◌≡◌, Some, sym, ◌∙◌}
+use Rattle.std.proofs.Common.{sym, ◌∙◌}
 use Rattle.npd_top.specs.Taken.{bytes_of}
 use Rattle.npd_top.proofs.Taking.{one_took, piece_refused}
 use Rattle.npd_top.proofs.output.write_piece.Goals as goal

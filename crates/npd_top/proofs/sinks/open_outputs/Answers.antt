@@ -1,6 +1,5 @@
 use Rattle.std.proofs.lemmas.Result.{err_from_is_err_and}
 use Rattle.std.proofs.Common.{None}
-use Rattle.npd_host.specs.Host.{Outputs}
 use Rattle.npd_top.specs.declared.status.Role.TheVariants.{Pdml, Psml, Trace}
 use Rattle.npd_top.proofs.Begun.{none_begun, pdml_begun, psml_begun, trace_begun, open_failed}
 use Rattle.npd_top.proofs.sinks.open_outputs.Goals as goal
