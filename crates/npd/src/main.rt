@@ -1,7 +1,8 @@
 //! The program npd: hands its words and the files and streams of the process to the top call, prints the status's
 //! text to standard error, and ends with the status's exit number.
 #![tactic(auto)]
-ghost use Rattle.std.specs.Prelude.{◌<◌, ◌^◌, length};
+
+ghost use Rattle.std.specs.Prelude.{◌<◌, ◌≤◌, ◌^◌, length};
 
 use npd_host::FileHost;
 use npd_top::{Status, run_serial};
@@ -53,6 +54,17 @@ fn refused(rt: &(impl Env + AllocGlobal), error: &io::Error) -> Status {
 /// How many words are handed in at most where there are 2^32 or more: these have the same first fault.
 const ENOUGH_WORDS: usize = 1_000;
 
+/// The first words, at most so many.
+fn first_words(words: &[String], most: usize) -> &[String]
+    ensures { length result.now ≤ most }
+{
+    if words.len() <= most {
+        words
+    } else {
+        &words[..most]
+    }
+}
+
 /// All words, or the first ones of far too many.
 fn enough(words: &[String]) -> &[String]
     ensures { length result.now < 2 ^ 32 }
@@ -60,7 +72,7 @@ fn enough(words: &[String]) -> &[String]
     if words.len() < 4_294_967_296 {
         words
     } else {
-        &words[..ENOUGH_WORDS]
+        first_words(words, ENOUGH_WORDS)
     }
 }
 
