@@ -65,8 +65,8 @@ impl Case {
             "run" => set(&mut self.end, run(rt.alloc(), &mut self.host, rest)),
             "refused" => set(&mut self.end, ended(rt.alloc(), &Status::NoMemory)),
             "ends" => {
-                self.is_judged = self.end() == rest;
-                self.is_judged
+                let holds = ends_so(rt.alloc(), self.end(), rest);
+                self.judge(holds)
             }
             "sound" => self.judge(is_sound(rt.alloc(), rest)),
             "faulty" => self.judge(is_faulty(rt.alloc(), rest)),
@@ -83,6 +83,12 @@ fn set(end: &mut String, came: Option<String>) -> bool {
         }
         None => false,
     }
+}
+
+/// `ends TEXT`: whether the run ended so; a second line stands behind `\n`.
+fn ends_so(alloc: Global, end: &str, rest: &str) -> Option<bool> {
+    let wanted = unescaped(alloc, rest)?;
+    Some(end.as_bytes() == wanted.as_slice())
 }
 
 /// `file NAME FILE`: the input NAME has the bytes of FILE.
@@ -134,6 +140,9 @@ fn plan_failure(host: &mut MemHost, rest: &str) -> Option<()> {
     host.fail(kind, number.parse::<u64>().ok()?).ok()
 }
 
+/// The most words that a case has.
+const MOST_WORDS: usize = 1_000;
+
 /// Words that stand apart by one space; two spaces have an empty word between them.
 fn words_of(alloc: Global, text: &str) -> Result<Vec<String>, NoMemory> {
     let mut words = Vec::new(alloc);
@@ -156,5 +165,8 @@ fn ended(alloc: Global, status: &Status) -> Option<String> {
 /// `run WORDS`: runs the top call, and gives how it ended.
 pub fn run(alloc: Global, host: &mut MemHost, text: &str) -> Option<String> {
     let words = words_of(alloc, text).ok()?;
-    ended(alloc, &run_serial(alloc, &words, host))
+    if words.len() > MOST_WORDS {
+        return None;
+    }
+    ended(alloc, &run_serial(alloc, words.as_slice(), host))
 }

@@ -1,18 +1,18 @@
 -- How the findings of a check's steps make up what its status says.
-use Rattle.std.proofs.Common.{◌≡◌, ◌<◌, ◌≤◌, ◌⊎◌, ℕ, Bool, true, false, ltb, List, [], ◌∷◌, ◌++◌, length, Option, Some, None, Result, Ok, Err, refl, sym, ap, ◌∙◌, inl, inr, ⊎_elim, append-nil, length-append, subst, IfSome, arith}
+use Rattle.std.proofs.Common.{◌≡◌, ◌<◌, ◌≤◌, ℕ, Bool, true, false, ltb, List, [], ◌∷◌, ◌++◌, length, Option, Some, None, Result, Ok, Err, refl, sym, ap, ◌∙◌, inl, inr, ⊎_elim, append-nil, length-append, subst, IfSome, arith}
 use Rattle.std.proofs.lemmas.Bool.Decides.{nat_tests}
 use Rattle.db_model.specs.declared.database.Database as model
 use Rattle.db_text.specs.Refusal as text
 use Rattle.db_text.specs.declared.limits.TheConstants.{MOST_TEXT_BYTES}
-use Rattle.npd_top.specs.declared.plan.CheckFiles.{CheckFiles}
-use Rattle.npd_top.specs.declared.status.Role.TheVariants.{Db, Cap, Pdml, Out}
+use Rattle.npd_top.specs.declared.job.CheckFiles.{CheckFiles}
+use Rattle.npd_top.specs.declared.status.Role.TheVariants.{Db, Cap, Pdml, Psml, Trace, Out}
 use Rattle.npd_top.specs.declared.status.Status.{Status}
-use Rattle.npd_top.specs.declared.status.Status.TheVariants.{Done, Open, Read, Write, Database, Capture, NoMemory, Unbuilt}
+use Rattle.npd_top.specs.declared.status.Status.TheVariants.{Done, Words, Open, Read, Write, Database, Capture, PacketLimit, NoMemory, Unbuilt}
 use Rattle.npd_top.specs.Accepted.{HasAccepted}
 use Rattle.npd_top.specs.CheckRun.{FindsAccepted, CheckSays, CheckOpens, totals_of, totals_line, standard}
 use Rattle.npd_top.specs.Loaded.{DatabaseIs}
 use Rattle.npd_top.specs.Outside.{Outside, OpensOne, FrontOf}
-use Rattle.npd_top.specs.Written.{Wrote, WroteFront, WrotePart, WritesLine}
+use Rattle.npd_top.specs.Written.{WroteFront, WroteProper, WritesLine}
 
 -- a front that is longer than any text of a database is refused, and so is the whole
 long-refused : (front whole : List ℕ) (line code : ℕ) → MOST_TEXT_BYTES < length front → length front ≤ length whole → text.IsRefused front line code → text.IsRefused whole line code
@@ -27,10 +27,12 @@ long-whole (Err (Database line code)) front whole long more is =
     (λ fault. ⊎_elim (λ refused. inl (inl (long-refused front whole line code long more refused))) (λ judged. let within = judged.text.within in absurd (omega arith)) fault)
     (λ objected. let within = objected.loaded.text.within in absurd (omega arith)) is
 long-whole (Err Done) front whole long more is = tt
+long-whole (Err (Words index at)) front whole long more is = tt
 long-whole (Err (Open role)) front whole long more is = tt
 long-whole (Err (Read role)) front whole long more is = tt
 long-whole (Err (Write role)) front whole long more is = tt
 long-whole (Err (Capture offset code)) front whole long more is = tt
+long-whole (Err (PacketLimit max)) front whole long more is = tt
 long-whole (Err NoMemory) front whole long more is = tt
 long-whole (Err (Unbuilt which)) front whole long more is = tt
 
@@ -65,13 +67,19 @@ pub says_line : (status : Status) (files : CheckFiles) (before after : Outside) 
 says_line Done files before after db is w = absurd w
 says_line (Open Db) files before after db is w = absurd w
 says_line (Open Cap) files before after db is w = absurd w
+says_line (Words index code) files before after db is w = absurd w
+says_line (PacketLimit max) files before after db is w = absurd w
 says_line (Open Pdml) files before after db is w = absurd w
+says_line (Open Psml) files before after db is w = absurd w
+says_line (Open Trace) files before after db is w = absurd w
 says_line (Open Out) files before after db is w = (w, finds_accepted files before db (λ line. Unit {0}) is tt)
 says_line (Read role) files before after db is w = absurd w
 says_line (Write Db) files before after db is w = absurd w
 says_line (Write Cap) files before after db is w = absurd w
 says_line (Write Pdml) files before after db is w = absurd w
-says_line (Write Out) files before after db is w = finds_accepted files before db (WrotePart before.outputs after.outputs standard) is w
+says_line (Write Psml) files before after db is w = absurd w
+says_line (Write Trace) files before after db is w = absurd w
+says_line (Write Out) files before after db is w = finds_accepted files before db (WroteProper before.outputs after.outputs standard) is w
 says_line (Database line code) files before after db is w = absurd w
 says_line (Capture offset code) files before after db is w = absurd w
 says_line NoMemory files before after db is w =
@@ -84,12 +92,18 @@ pub opens_line : (status : Status) (files : CheckFiles) (before after : Outside)
 opens_line Done files before after began line here w read opens = absurd w
 opens_line (Open Db) files before after began line here w read opens = absurd w
 opens_line (Open Cap) files before after began line here w read opens = absurd w
+opens_line (Words index code) files before after began line here w read opens = absurd w
+opens_line (PacketLimit max) files before after began line here w read opens = absurd w
 opens_line (Open Pdml) files before after began line here w read opens = absurd w
+opens_line (Open Psml) files before after began line here w read opens = absurd w
+opens_line (Open Trace) files before after began line here w read opens = absurd w
 opens_line (Open Out) files before after began line here w read opens = record { inputs = read; outputs = opens ∙ here ∙ sym (append-nil before.outputs.opened) }
 opens_line (Read role) files before after began line here w read opens = absurd w
 opens_line (Write Db) files before after began line here w read opens = absurd w
 opens_line (Write Cap) files before after began line here w read opens = absurd w
 opens_line (Write Pdml) files before after began line here w read opens = absurd w
+opens_line (Write Psml) files before after began line here w read opens = absurd w
+opens_line (Write Trace) files before after began line here w read opens = absurd w
 opens_line (Write Out) files before after began line here w read opens = record { inputs = read; outputs = opens ∙ ap (λ (l : List (List ℕ)). l ++ standard ∷ []) here }
 opens_line (Database at code) files before after began line here w read opens = absurd w
 opens_line (Capture offset code) files before after began line here w read opens = absurd w

@@ -1,10 +1,12 @@
+pub mod Begun
 pub mod Causes
 pub mod Checks
 pub mod Complete
 pub mod Ids
 pub mod Opening
 pub mod Outcomes
+pub mod PacketTexts
 pub mod Runs
-pub mod Texts
+pub mod Taking
 pub mod Told
 pub mod Turns

@@ -1,10 +1,9 @@
 -- What is found of a capture that was opened, and of one of which less than a header was taken.
-use Rattle.std.proofs.Common.{◌≡◌, ◌<◌, ℕ, true, List, [], ◌++◌, length, Option, Some, None, Result, Ok, Err, refl, sym, ap, ◌∙◌, subst, IfSome, IsTrue, arith, cond, ltb}
-use Rattle.std.proofs.lemmas.Bool.Decides.{nat_tests}
-use Rattle.npd_host.specs.Host.{Inputs, OpensInput, FrontIs, Gave}
+use Rattle.std.proofs.Common.{◌≡◌, ◌<◌, ℕ, List, [], ◌++◌, length, Option, Some, None, Ok, Err, sym, ap, ◌∙◌, subst, IfSome, IsTrue}
+use Rattle.npd_host.specs.Host.{Inputs, OpensInput, FrontIs}
 use Rattle.pcap_in.specs.declared.fail.CapFail.{CapFail}
 use Rattle.pcap_in.specs.declared.fail.CapFail.TheVariants as fail
-use Rattle.pcap_in.specs.Capture.{Broken, header, cap}
+use Rattle.pcap_in.specs.Capture.{Broken, header}
 use Rattle.pcap_in.specs.Reader.{Reader, is_usable, is_reading, InReach, Begins, TakesHeader}
 use Rattle.pcap_in.specs.Reading.{OnlyRead}
 use Rattle.npd_top.specs.CaptureRead.{IsBehindHeader, IsOpen, CaptureOpens}

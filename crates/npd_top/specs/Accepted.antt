@@ -1,5 +1,5 @@
--- What the text of a database is: accepted, and whether all that it declares is served; or refused.
-use Rattle.std.specs.Prelude.{◌≡◌, ◌⊎◌, ◌&&◌, not, ℕ, Bool, true, false, List, [], ◌∷◌, is_some, Some, None, Ok, Err}
+-- What the text of a database is: accepted, or refused.
+use Rattle.std.specs.Prelude.{◌≡◌, ◌⊎◌, ℕ, List, Some, None, Ok, Err}
 use Rattle.db_model.specs.declared.database.Database.{Database}
 use Rattle.db_model.specs.declared.fault.DbFail.TheVariants as fail
 use Rattle.db_model.specs.Objection.{objection}
@@ -25,23 +25,3 @@ IsRefused text line code = Answers text (Err (fail.Fault line code)) ⊎ HasObje
 pub record HasAccepted (text : List ℕ) : Type 0 where
   pub db : Database
   pub is : IsAccepted text db
-
-abbrev pub is_none_of : {A : Type 0} → List A → Bool
-is_none_of [] = true
-is_none_of (first ∷ rest) = false
-
--- all that a database declares is served: it declares no summary
-abbrev pub is_served : Database → Bool
-is_served db = not (is_some db.sum_struct) && is_none_of db.sum_templates
-
--- a database that is accepted and served
-pub record HasServed (text : List ℕ) : Type 0 where
-  pub db : Database
-  pub is : IsAccepted text db
-  pub served : is_served db ≡ true
-
--- one that is accepted and isn't
-pub record HasUnserved (text : List ℕ) : Type 0 where
-  pub db : Database
-  pub is : IsAccepted text db
-  pub unserved : is_served db ≡ false

@@ -1,5 +1,5 @@
 -- What the opening of a capture and the reading of what follows in it come to.
-use Rattle.std.specs.Prelude.{◌≡◌, ◌<◌, ℕ, Bool, true, List, [], ◌∷◌, ◌++◌, length, Option, Some, None, Result, Ok, Err, IsTrue, IfSome}
+use Rattle.std.specs.Prelude.{◌≡◌, ◌<◌, ℕ, List, [], ◌∷◌, ◌++◌, length, Option, Some, None, Result, Ok, Err, IsTrue, IfSome}
 use Rattle.npd_host.specs.Host.{Inputs}
 use Rattle.pcap_in.specs.declared.form.Form.{Form}
 use Rattle.pcap_in.specs.declared.state.State.TheVariants as state
@@ -9,9 +9,8 @@ use Rattle.pcap_in.specs.Reading.{record_length}
 use Rattle.npd_top.specs.declared.capture.Following.{Following}
 use Rattle.npd_top.specs.declared.capture.Following.TheVariants.{Packet, End}
 use Rattle.npd_top.specs.declared.status.Role.TheVariants.{Cap}
-use Rattle.npd_top.specs.declared.status.Part.TheVariants as part
 use Rattle.npd_top.specs.declared.status.Status.{Status}
-use Rattle.npd_top.specs.declared.status.Status.TheVariants.{Done, Open, Read, Capture, NoMemory, Unbuilt}
+use Rattle.npd_top.specs.declared.status.Status.TheVariants.{Done, Read, Capture, PacketLimit, NoMemory}
 use Rattle.npd_top.specs.DecodeRun.{GaveOf}
 
 -- ---- the opening
@@ -52,11 +51,16 @@ ClosesWith Done seen = seen ≡ whole_end
 ClosesWith (Capture offset code) seen = seen ≡ broken_end offset code
 ClosesWith other seen = ⊥
 
--- a run may close its output with this status
+-- a capture may end with this status
+abbrev pub IsCaptureEnd : Status → Type 0
+IsCaptureEnd Done = Unit {0}
+IsCaptureEnd (Capture offset code) = Unit {0}
+IsCaptureEnd other = ⊥
+
+-- and a run may close its outputs with it, or with that of the limit
 abbrev pub IsClosing : Status → Type 0
-IsClosing Done = Unit {0}
-IsClosing (Capture offset code) = Unit {0}
-IsClosing other = ⊥
+IsClosing (PacketLimit max) = Unit {0}
+IsClosing status = IsCaptureEnd status
 
 -- a packet and then what is left after it, or the end
 abbrev pub FollowingIs : Result Following Status → Option Seen → Seen → Type 0
@@ -67,7 +71,7 @@ FollowingIs (Err why) left seen = Unit {0}
 -- the bytes of the packet's record were taken; on a read fault fewer than a record has
 abbrev pub FollowingTakes : Result Following Status → Form → ℕ → List ℕ → Type 0
 FollowingTakes (Ok (Packet packet)) form number bytes = record_at form number bytes ≡ One packet []
-FollowingTakes (Ok (End status)) form number bytes = IsClosing status
+FollowingTakes (Ok (End status)) form number bytes = IsCaptureEnd status
 FollowingTakes (Err (Read Cap)) form number bytes = length bytes < record_length form bytes
 FollowingTakes (Err other) form number bytes = Unit {0}
 
@@ -84,16 +88,16 @@ BehindPacket (Err why) old new = Unit {0}
 -- ---- the limit
 
 -- nothing is left to see, or something is
-abbrev pub LimitIs : Result Status Status → Seen → Type 0
-LimitIs (Ok Done) seen = seen ≡ whole_end
-LimitIs (Err (Unbuilt part.Capture)) seen = seen ≡ whole_end → ⊥
-LimitIs other seen = Unit {0}
+abbrev pub LimitIs : ℕ → Result Status Status → Seen → Type 0
+LimitIs most (Ok Done) seen = seen ≡ whole_end
+LimitIs most (Ok (PacketLimit max)) seen = (seen ≡ whole_end → ⊥) × (max ≡ most)
+LimitIs most other seen = Unit {0}
 
 -- on a read fault nothing was taken
 abbrev pub LimitTakes : Result Status Status → List ℕ → Type 0
 LimitTakes (Ok Done) bytes = Unit {0}
+LimitTakes (Ok (PacketLimit max)) bytes = Unit {0}
 LimitTakes (Ok other) bytes = ⊥
 LimitTakes (Err (Read Cap)) bytes = bytes ≡ []
 LimitTakes (Err NoMemory) bytes = Unit {0}
-LimitTakes (Err (Unbuilt part.Capture)) bytes = Unit {0}
 LimitTakes (Err other) bytes = ⊥

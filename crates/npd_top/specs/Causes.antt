@@ -1,5 +1,5 @@
 -- Which status a part of a run gives up with, and which count of faults rose for it.
-use Rattle.std.specs.Prelude.{ℕ, List, Option, Some}
+use Rattle.std.specs.Prelude.{◌≡◌, ℕ, List, Option, IsSomeAnd}
 use Rattle.db_model.specs.declared.fault.DbFail.{DbFail}
 use Rattle.db_model.specs.declared.fault.DbFail.TheVariants as database
 use Rattle.npd_host.specs.declared.host.CallKind.{CallKind}
@@ -9,10 +9,10 @@ use Rattle.npd_host.specs.declared.host.HostFail.TheVariants as host
 use Rattle.npd_host.specs.Host.{Rose, RoseAt}
 use Rattle.pcap_in.specs.declared.fail.CapFail.{CapFail}
 use Rattle.pcap_in.specs.declared.fail.CapFail.TheVariants as fail
-use Rattle.npd_top.specs.declared.status.Role.TheVariants.{Db, Cap, Pdml, Out}
-use Rattle.npd_top.specs.declared.status.Part.TheVariants as part
+use Rattle.npd_top.specs.declared.status.Role.{Role}
+use Rattle.npd_top.specs.declared.status.Role.TheVariants.{Db, Cap, Out}
 use Rattle.npd_top.specs.declared.status.Status.{Status}
-use Rattle.npd_top.specs.declared.status.Status.TheVariants.{Done, Open, Read, Write, Database, Capture, NoMemory, Unbuilt}
+use Rattle.npd_top.specs.declared.status.Status.TheVariants.{Done, Open, Read, Write, Database, Capture, PacketLimit, NoMemory}
 
 -- the status where a host refused a call: this one, or want of memory
 abbrev pub refusal : Status → HostFail → Status
@@ -32,6 +32,10 @@ RoseOn kind name before now = Rose (before kind name) (now kind name)
 -- the count of a kind of call rose on an id's name
 abbrev pub RoseOnId : CallKind → Option (List ℕ) → (CallKind → List ℕ → ℕ) → (CallKind → List ℕ → ℕ) → Type 0
 RoseOnId kind name before now = RoseAt (before kind) (now kind) name
+
+-- the count of a kind of call rose on the name of a file that is one
+abbrev pub RoseIn : CallKind → Option (List ℕ) → (CallKind → List ℕ → ℕ) → (CallKind → List ℕ → ℕ) → Type 0
+RoseIn kind name before now = IsSomeAnd name (λ given. Rose (before kind given) (now kind given))
 
 -- the database file is opened and read
 abbrev pub HasTextCause : List ℕ → (CallKind → List ℕ → ℕ) → (CallKind → List ℕ → ℕ) → Status → Type 0
@@ -56,21 +60,11 @@ abbrev pub HasDatabaseCause : List ℕ → (CallKind → List ℕ → ℕ) → (
 HasDatabaseCause name before now (Database line code) = Unit {0}
 HasDatabaseCause name before now status = HasTextCause name before now status
 
--- and made ready to decode by
-abbrev pub HasServedCause : List ℕ → (CallKind → List ℕ → ℕ) → (CallKind → List ℕ → ℕ) → Status → Type 0
-HasServedCause name before now (Unbuilt part.Database) = Unit {0}
-HasServedCause name before now status = HasDatabaseCause name before now status
-
 -- the next packet of an open capture is read
 abbrev pub HasReadCause : Option (List ℕ) → (CallKind → List ℕ → ℕ) → (CallKind → List ℕ → ℕ) → Status → Type 0
 HasReadCause name before now (Read Cap) = RoseOnId call.Read name before now
 HasReadCause name before now NoMemory = Unit {0}
 HasReadCause name before now other = ⊥
-
--- it is told whether something follows in it
-abbrev pub HasLimitCause : Option (List ℕ) → (CallKind → List ℕ → ℕ) → (CallKind → List ℕ → ℕ) → Status → Type 0
-HasLimitCause name before now (Unbuilt part.Capture) = Unit {0}
-HasLimitCause name before now status = HasReadCause name before now status
 
 -- a capture is opened, and its file header is read
 abbrev pub HasCaptureCause : List ℕ → (CallKind → List ℕ → ℕ) → (CallKind → List ℕ → ℕ) → Status → Type 0
@@ -80,26 +74,38 @@ HasCaptureCause name before now (Capture offset code) = Unit {0}
 HasCaptureCause name before now NoMemory = Unit {0}
 HasCaptureCause name before now other = ⊥
 
--- pieces are written to an open output
-abbrev pub HasWriteCause : Option (List ℕ) → (CallKind → List ℕ → ℕ) → (CallKind → List ℕ → ℕ) → Status → Type 0
-HasWriteCause name before now (Write Pdml) = RoseOnId call.Write name before now
-HasWriteCause name before now NoMemory = Unit {0}
-HasWriteCause name before now other = ⊥
+-- pieces are written to open outputs of these names
+abbrev pub HasWriteCause : (Role → Option (List ℕ)) → (CallKind → List ℕ → ℕ) → (CallKind → List ℕ → ℕ) → Status → Type 0
+HasWriteCause names before now (Write role) = RoseIn call.Write (names role) before now
+HasWriteCause names before now NoMemory = Unit {0}
+HasWriteCause names before now other = ⊥
 
--- the packets of an open capture are read and written to an open output
-abbrev pub HasPacketsCause : Option (List ℕ) → Option (List ℕ) → (CallKind → List ℕ → ℕ) → (CallKind → List ℕ → ℕ) → Status → Type 0
-HasPacketsCause cap pdml before now (Read Cap) = RoseOnId call.Read cap before now
-HasPacketsCause cap pdml before now (Write Pdml) = RoseOnId call.Write pdml before now
-HasPacketsCause cap pdml before now NoMemory = Unit {0}
-HasPacketsCause cap pdml before now Done = Unit {0}
-HasPacketsCause cap pdml before now (Capture offset code) = Unit {0}
-HasPacketsCause cap pdml before now (Unbuilt part.Capture) = Unit {0}
-HasPacketsCause cap pdml before now other = ⊥
+-- the packets of an open capture are read and written to open outputs
+abbrev pub HasPacketsCause : Option (List ℕ) → (Role → Option (List ℕ)) → (CallKind → List ℕ → ℕ) → (CallKind → List ℕ → ℕ) → Status → Type 0
+HasPacketsCause cap names before now (Read Cap) = RoseOnId call.Read cap before now
+HasPacketsCause cap names before now (Write role) = RoseIn call.Write (names role) before now
+HasPacketsCause cap names before now NoMemory = Unit {0}
+HasPacketsCause cap names before now Done = Unit {0}
+HasPacketsCause cap names before now (Capture offset code) = Unit {0}
+HasPacketsCause cap names before now (PacketLimit max) = Unit {0}
+HasPacketsCause cap names before now other = ⊥
 
--- the output is opened first
-abbrev pub HasOutputCause : Option (List ℕ) → List ℕ → (CallKind → List ℕ → ℕ) → (CallKind → List ℕ → ℕ) → Status → Type 0
-HasOutputCause cap pdml before now (Open Pdml) = RoseOn call.OpenOut pdml before now
-HasOutputCause cap pdml before now status = HasPacketsCause cap (Some pdml) before now status
+-- the output of a role is opened, where it is named
+abbrev pub HasNamedCause : Role → Option (List ℕ) → (CallKind → List ℕ → ℕ) → (CallKind → List ℕ → ℕ) → Status → Type 0
+HasNamedCause role name before now (Open which) = (which ≡ role) × RoseIn call.OpenOut name before now
+HasNamedCause role name before now NoMemory = Unit {0}
+HasNamedCause role name before now other = ⊥
+
+-- outputs of these names are opened
+abbrev pub HasOpenCause : (Role → Option (List ℕ)) → (CallKind → List ℕ → ℕ) → (CallKind → List ℕ → ℕ) → Status → Type 0
+HasOpenCause names before now (Open role) = RoseIn call.OpenOut (names role) before now
+HasOpenCause names before now NoMemory = Unit {0}
+HasOpenCause names before now other = ⊥
+
+-- the outputs are opened first
+abbrev pub HasOutputsCause : Option (List ℕ) → (Role → Option (List ℕ)) → (CallKind → List ℕ → ℕ) → (CallKind → List ℕ → ℕ) → Status → Type 0
+HasOutputsCause cap names before now (Open role) = HasOpenCause names before now (Open role)
+HasOutputsCause cap names before now status = HasPacketsCause cap names before now status
 
 -- the output of a command's line is opened and written
 abbrev pub HasLineCause : List ℕ → (CallKind → List ℕ → ℕ) → (CallKind → List ℕ → ℕ) → Status → Type 0

@@ -1,14 +1,14 @@
 -- What a check comes to: which status comes where, which files are opened, and what the output has taken then.
-use Rattle.std.specs.Prelude.{◌≡◌, ◌⊎◌, ℕ, List, [], ◌∷◌, ◌++◌, length, codes, decimal, IfSome}
+use Rattle.std.specs.Prelude.{◌⊎◌, ℕ, List, [], ◌∷◌, ◌++◌, length, codes, decimal, IfSome}
 use Rattle.db_model.specs.declared.database.Database as model
-use Rattle.npd_top.specs.declared.plan.CheckFiles.{CheckFiles}
-use Rattle.npd_top.specs.declared.status.Role.TheVariants.{Db, Cap, Pdml, Out}
+use Rattle.npd_top.specs.declared.job.CheckFiles.{CheckFiles}
+use Rattle.npd_top.specs.declared.status.Role.TheVariants.{Db, Out}
 use Rattle.npd_top.specs.declared.status.Status.{Status}
-use Rattle.npd_top.specs.declared.status.Status.TheVariants.{Done, Open, Read, Write, Database, Capture, NoMemory, Unbuilt}
+use Rattle.npd_top.specs.declared.status.Status.TheVariants.{Done, Open, Read, Write, Database, NoMemory}
 use Rattle.npd_top.specs.declared.totals.Totals.{Totals}
 use Rattle.npd_top.specs.Accepted.{IsRefused, HasAccepted}
 use Rattle.npd_top.specs.Outside.{Outside, Opened, WroteNothing}
-use Rattle.npd_top.specs.Written.{Wrote, WroteFront, WrotePart}
+use Rattle.npd_top.specs.Written.{Wrote, WroteFront, WroteProper}
 
 -- how much a database declares
 abbrev pub totals_of : model.Database → Totals
@@ -28,27 +28,18 @@ FindsAccepted files before Holds = IfSome (before.files files.db) (λ text. (fou
 abbrev pub standard : List ℕ
 standard = codes "-"
 
--- what each status says of the file, and of the outputs before and after; those that end in ⊥ never come
+-- what each status says of the file, and of the outputs before and after; all others never come
 abbrev pub CheckSays : Status → CheckFiles → Outside → Outside → Type 0
 CheckSays Done files before after = FindsAccepted files before (Wrote before.outputs after.outputs standard)
 CheckSays (Open Db) files before after = WroteNothing before after
-CheckSays (Open Cap) files before after = ⊥
-CheckSays (Open Pdml) files before after = ⊥
 CheckSays (Open Out) files before after = WroteNothing before after × FindsAccepted files before (λ line. Unit {0})
 CheckSays (Read Db) files before after = WroteNothing before after
-CheckSays (Read Cap) files before after = ⊥
-CheckSays (Read Pdml) files before after = ⊥
-CheckSays (Read Out) files before after = ⊥
-CheckSays (Write Db) files before after = ⊥
-CheckSays (Write Cap) files before after = ⊥
-CheckSays (Write Pdml) files before after = ⊥
-CheckSays (Write Out) files before after = FindsAccepted files before (WrotePart before.outputs after.outputs standard)
+CheckSays (Write Out) files before after = FindsAccepted files before (WroteProper before.outputs after.outputs standard)
 CheckSays (Database line code) files before after =
     WroteNothing before after × IfSome (before.files files.db) (λ text. IsRefused text line code)
 CheckSays NoMemory files before after =
     WroteNothing before after ⊎ FindsAccepted files before (WroteFront before.outputs after.outputs standard)
-CheckSays (Capture offset code) files before after = ⊥
-CheckSays (Unbuilt which) files before after = ⊥
+CheckSays never files before after = ⊥
 
 -- which files were opened, whatever the host tells: the output only behind an accepted database
 abbrev pub CheckOpens : Status → CheckFiles → Outside → Outside → Type 0

@@ -4,6 +4,7 @@ pub mod Causes
 pub mod CheckRun
 pub mod DecodeRun
 pub mod Decoder
+pub mod Jobs
 pub mod Laws
 pub mod Loaded
 pub mod Outputs
@@ -11,5 +12,6 @@ pub mod Outside
 pub mod Packets
 pub mod Run
 pub mod Status
-pub mod Words
+pub mod Taken
+pub mod Trace
 pub mod Written

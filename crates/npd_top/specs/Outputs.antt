@@ -7,20 +7,26 @@ use Rattle.db_model.specs.declared.tree.Proto.{Proto}
 use Rattle.db_model.specs.Serial.{tree}
 use Rattle.db_model.specs.Session.{declared}
 use Rattle.pdml_out.specs.Pdml as pdml
+use Rattle.psml_out.specs.Psml as psml
 use Rattle.npd_top.specs.declared.status.Role.{Role}
-use Rattle.npd_top.specs.declared.status.Role.TheVariants.{Pdml}
+use Rattle.npd_top.specs.declared.status.Role.TheVariants.{Pdml, Psml, Trace}
+use Rattle.npd_top.specs.Trace.{trace_line}
 
--- the inputs, and the output of a command's line, have no packets
+-- the trace has nothing round its lines; the inputs, and the output of a command's line, have no packets
 abbrev pub opening : Role → Database → List ℕ
 opening Pdml db = pdml.opening
+opening Psml db = psml.opening db
 opening other db = []
 
 abbrev pub packet_text : Role → Database → Packet → List Proto → List ℕ
 packet_text Pdml db packet protos = pdml.packet_text db packet protos
+packet_text Psml db packet protos = psml.packet_text db packet protos
+packet_text Trace db packet protos = trace_line packet.number
 packet_text other db packet protos = []
 
 abbrev pub closing : Role → List ℕ
 closing Pdml = pdml.closing
+closing Psml = psml.closing
 closing other = []
 
 -- the text of a packet that stands at a place, with its tree
@@ -40,3 +46,21 @@ open_text role db packets = opening role db ++ texts role db packets (length pac
 -- the same, and the closing
 unfoldable pub whole_text : Role → Database → List Packet → List ℕ
 whole_text role db packets = open_text role db packets ++ closing role
+
+-- ---- the same of all outputs: each by its role
+
+abbrev pub openings : Database → Role → List ℕ
+openings db role = opening role db
+
+abbrev pub packet_texts : Database → Packet → List Proto → Role → List ℕ
+packet_texts db packet protos role = packet_text role db packet protos
+
+abbrev pub open_texts : Database → List Packet → Role → List ℕ
+open_texts db packets role = open_text role db packets
+
+abbrev pub whole_texts : Database → List Packet → Role → List ℕ
+whole_texts db packets role = whole_text role db packets
+
+-- nothing in any output
+abbrev pub no_texts : Role → List ℕ
+no_texts role = []

@@ -4,10 +4,10 @@ ghost use Rattle.npd_host.specs.Host.{MovesInputsOnly};
 ghost use Rattle.pcap_in.specs.Reader.{is_usable, is_reading, left, InReach};
 ghost use Rattle.pcap_in.specs.Reading.{OnlyRead};
 ghost use Rattle.npd_top.specs.CaptureRead.{CaptureOpens, FollowingIs, FollowingTakes, IsStamped, BehindPacket, LimitIs, LimitTakes};
-ghost use Rattle.npd_top.specs.Causes.{capture_status, HasReadCause, HasCaptureCause, HasLimitCause};
+ghost use Rattle.npd_top.specs.Causes.{capture_status, HasReadCause, HasCaptureCause};
 ghost use Rattle.npd_top.specs.Outside.{OpensOne};
 
-use crate::status::{Part, Role, Status, refused};
+use crate::status::{Role, Status, refused};
 use db_model::Packet;
 use npd_host::Host;
 use pcap_in::{CapFail, CapReader, Next};
@@ -78,22 +78,20 @@ pub fn next_packet<H: Host>(host: &mut H, reader: &mut CapReader) -> Result<Foll
     }
 }
 
-/// How a run ends whose limit of packets is reached: it is done where nothing follows.
-pub fn at_limit<H: Host>(host: &mut H, reader: &mut CapReader) -> Result<Status, Status>
+/// How a run ends that has read as many packets as it may, `most`: it is done where nothing follows.
+pub fn at_limit<H: Host>(host: &mut H, reader: &mut CapReader, most: u32) -> Result<Status, Status>
     requires reading { IsTrue (is_reading reader.old.state) }
     requires given { IsSome ((H.inputs host.old).name reader.old.id.0) }
     requires reach { InReach reader.old (H.inputs host.old) }
-    ensures limit { IfSome (left reader.old (H.inputs host.old)) (LimitIs result) }
+    ensures limit { IfSome (left reader.old (H.inputs host.old)) (LimitIs most result) }
     ensures takes { OnlyRead reader.old.id.0 (H.inputs host.old) (H.inputs host.new)
         (LimitTakes result) }
     ensures frame { MovesInputsOnly H.outputs H.files H.faults host.old host.new }
-    ensures cause { IfErr result (HasLimitCause ((H.inputs host.old).name reader.old.id.0)
+    ensures cause { IfErr result (HasReadCause ((H.inputs host.old).name reader.old.id.0)
         (H.faults host.old) (H.faults host.new)) }
 {
     match reader.more(host) {
-        Ok(true) => Err(Status::Unbuilt {
-            part: Part::Capture,
-        }),
+        Ok(true) => Ok(Status::PacketLimit { max: most }),
         Ok(false) => Ok(Status::Done),
         Err(fail) => Err(status_of(fail)),
     }

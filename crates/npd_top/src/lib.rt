@@ -4,18 +4,19 @@
 
 mod capture;
 mod decoder;
+mod job;
 mod laws;
 mod limits;
 mod load;
 mod output;
 mod packets;
-mod plan;
 mod run;
-mod served;
+mod sinks;
 mod status;
+mod texts;
 mod totals;
 
+pub use job::{CheckFiles, DecodeFiles, Job, OutputFiles};
 pub use laws::a_run_ends_well;
-pub use plan::{CheckFiles, DecodeFiles, Plan};
 pub use run::run_serial;
 pub use status::{Part, Role, Status};

@@ -2,9 +2,11 @@ ghost use Rattle.std.specs.Prelude.{◌≡◌, ◌<◌, IfSome, IfErr, IfOk};
 ghost use Rattle.db_text.specs.declared.limits.TheConstants.{MOST_TEXT_BYTES};
 ghost use Rattle.npd_host.specs.Host.{MovesInputsOnly};
 ghost use Rattle.npd_top.specs.Causes.{fault_status, IsFault, HasTextCause, HasDatabaseCause};
-ghost use Rattle.npd_top.specs.Loaded.{DatabaseIs};
+ghost use Rattle.npd_top.specs.Decoder.{IsNew};
+ghost use Rattle.npd_top.specs.Loaded.{DatabaseIs, DecoderIs};
 ghost use Rattle.npd_top.specs.Outside.{OpensOne, KeepsIds, FrontOf};
 
+use crate::decoder::{Decoder, decoder_of, parts_of};
 use crate::status::{Role, Status, refused};
 use db_check::check;
 use db_load::load_database;
@@ -84,4 +86,26 @@ pub fn load<H: Host>(
 {
     let text = read_text(alloc, host, name, most)?;
     accepted(alloc, text.as_slice())
+}
+
+/// The same, and makes what decodes by the database.
+pub fn load_decoder<H: Host>(
+    alloc: Global,
+    host: &mut H,
+    name: &str,
+    most: usize,
+) -> Result<Decoder, Status>
+    requires { MOST_TEXT_BYTES < most }
+    ensures database { IfSome (H.files host.old name.now) (DecoderIs result) }
+    ensures new { IfOk result IsNew }
+    ensures opens { OpensOne name.now (H.inputs host.old).opened (H.inputs host.new).opened result }
+    ensures keeps { KeepsIds (H.inputs host.old) (H.inputs host.new) }
+    ensures frame { MovesInputsOnly H.outputs H.files H.faults host.old host.new }
+    ensures cause { IfErr result (HasDatabaseCause name.now (H.faults host.old) (H.faults host.new)) }
+{
+    let db = load(alloc, host, name, most)?;
+    match parts_of(alloc, &db) {
+        Ok(parts) => Ok(decoder_of(db, parts)),
+        Err(_) => Err(Status::NoMemory),
+    }
 }

@@ -1,25 +1,48 @@
-ghost use Rattle.std.specs.Prelude.{IsSome, IfErr};
+ghost use Rattle.std.specs.Prelude.{IfErr};
 ghost use Rattle.npd_host.specs.Host.{MovesOutputsOnly};
 ghost use Rattle.npd_top.specs.Causes.{HasWriteCause, HasLineCause};
 ghost use Rattle.npd_top.specs.CheckRun.{standard};
 ghost use Rattle.npd_top.specs.Outside.{OpensOne};
-ghost use Rattle.npd_top.specs.Written.{TakesText, WritesLine};
+ghost use Rattle.npd_top.specs.Taken.{bytes_of, only, AreGiven, sink_name, TakesTexts};
+ghost use Rattle.npd_top.specs.Written.{AreApart, WritesLine};
 
+use crate::sinks::Sinks;
 use crate::status::{Role, Status, refused};
-use npd_host::{Host, OutId, write_all};
+use crate::texts::Texts;
+use npd_host::{Host, write_all};
 
-/// Writes one piece of packets.
-pub fn write_piece<H: Host>(host: &mut H, id: OutId, bytes: &[u8]) -> Result<(), Status>
-    requires { IsSome ((H.outputs host.old).name id.0) }
-    ensures takes { TakesText result id.0 (H.outputs host.old) (H.outputs host.new) bytes.now }
+/// Writes the piece of one role, where it has an output.
+fn write_piece<H: Host>(host: &mut H, sinks: Sinks, role: Role, texts: &Texts) -> Result<(), Status>
+    requires given { AreGiven sinks (H.outputs host.old).name }
+    requires apart { AreApart sinks }
+    ensures takes { TakesTexts result sinks (H.outputs host.old) (H.outputs host.new)
+        (only role (bytes_of texts.now)) }
     ensures frame { MovesOutputsOnly H.inputs H.files H.faults host.old host.new }
-    ensures cause { IfErr result (HasWriteCause ((H.outputs host.old).name id.0)
+    ensures cause { IfErr result (HasWriteCause (sink_name sinks (H.outputs host.old).name)
         (H.faults host.old) (H.faults host.new)) }
 {
-    match write_all(host, id, bytes) {
+    let Some(id) = sinks.of(role) else {
+        return Ok(());
+    };
+    match write_all(host, id, texts.of(role)) {
         Ok(()) => Ok(()),
-        Err(fail) => Err(refused(fail, Status::Write { role: Role::Pdml })),
+        Err(fail) => Err(refused(fail, Status::Write { role })),
     }
+}
+
+/// Writes the piece of each role, in the order PDML, PSML, trace.
+pub fn write_texts<H: Host>(host: &mut H, sinks: Sinks, texts: &Texts) -> Result<(), Status>
+    requires given { AreGiven sinks (H.outputs host.old).name }
+    requires apart { AreApart sinks }
+    ensures takes { TakesTexts result sinks (H.outputs host.old) (H.outputs host.new)
+        (bytes_of texts.now) }
+    ensures frame { MovesOutputsOnly H.inputs H.files H.faults host.old host.new }
+    ensures cause { IfErr result (HasWriteCause (sink_name sinks (H.outputs host.old).name)
+        (H.faults host.old) (H.faults host.new)) }
+{
+    write_piece(host, sinks, Role::Pdml, texts)?;
+    write_piece(host, sinks, Role::Psml, texts)?;
+    write_piece(host, sinks, Role::Trace, texts)
 }
 
 /// Opens standard output and writes the line of a command.

@@ -2,59 +2,108 @@ ghost use Rattle.std.specs.Prelude.{◌≡◌, ◌+◌, ◌<◌, ◌≤◌, ◌�
 ghost use Rattle.db_model.specs.Decoding.{dec};
 ghost use Rattle.db_model.specs.Session.{declared};
 ghost use Rattle.db_model.specs.declared.limits.TheConstants.{STAMP_END};
-ghost use Rattle.npd_host.specs.Host.{Took, TookPart, NoneFalls, MovesOutputsOnly};
+ghost use Rattle.npd_host.specs.Host.{NoneFalls, MovesOutputsOnly};
 ghost use Rattle.pcap_in.specs.Reader.{is_usable, is_reading, InReach};
-ghost use Rattle.npd_top.specs.declared.status.Role.{Role};
-ghost use Rattle.npd_top.specs.Causes.{HasWriteCause, HasPacketsCause, HasOutputCause};
+ghost use Rattle.npd_top.specs.Causes.{HasWriteCause, HasPacketsCause, HasOutputsCause};
 ghost use Rattle.npd_top.specs.Decoder.{IsReady};
-ghost use Rattle.npd_top.specs.Outputs.{packet_text};
-ghost use Rattle.npd_top.specs.Outside.{OpensOne, ended};
-ghost use Rattle.npd_top.specs.Packets.{Turns, Ends, OutputIs, PdmlIs};
-ghost use Rattle.npd_top.specs.Written.{TakesText, TookFront, TookSome, GaveSome};
+ghost use Rattle.npd_top.specs.Jobs.{output_of};
+ghost use Rattle.npd_top.specs.Outputs.{openings, packet_texts, closing};
+ghost use Rattle.npd_top.specs.Packets.{Turns, Ends, OutputsAre, NamedAre, OpensNames};
+ghost use Rattle.npd_top.specs.Taken.{AreGiven, sink_name, TakesTexts, TookEach, TookParts, TookFronts, HasTexts, GaveSome};
+ghost use Rattle.npd_top.specs.Written.{AreApart};
 
 use crate::capture::{Following, at_limit, next_packet};
 use crate::decoder::Engine;
-use crate::output::write_piece;
-use crate::status::{Role, Status, refused};
+use crate::job::OutputFiles;
+use crate::output::write_texts;
+use crate::sinks::{Sinks, open_outputs};
+use crate::status::Status;
+use crate::texts::{Texts, put};
 use db_laws::serial_front;
-use db_model::{Answers, Packet};
+use db_model::{Answers, NoMemory, Packet};
 use decode_vm::Steps;
-use npd_host::{Host, OutId};
+use npd_host::Host;
 use pcap_in::CapReader;
 use pcap_in::laws::fronts_tell;
-use pdml_out::{closing, opening};
 use std::alloc::Global;
 use std::marker::Brand;
 use std::sync::ledger::{Blank, Ledger};
 
-/// Decodes a packet and writes its text as one piece.
+/// Writes the openings.
+fn write_openings<H: Host>(
+    alloc: Global,
+    host: &mut H,
+    sinks: Sinks,
+    engine: &Engine,
+    texts: &mut Texts,
+) -> Result<(), Status>
+    requires given { AreGiven sinks (H.outputs host.old).name }
+    requires apart { AreApart sinks }
+    ensures takes { TakesTexts result sinks (H.outputs host.old) (H.outputs host.new)
+        (openings engine.now.db) }
+    ensures frame { MovesOutputsOnly H.inputs H.files H.faults host.old host.new }
+    ensures cause { IfErr result (HasWriteCause (sink_name sinks (H.outputs host.old).name)
+        (H.faults host.old) (H.faults host.new)) }
+{
+    match engine.put_openings(alloc, sinks, texts) {
+        Ok(()) => write_texts(host, sinks, texts),
+        Err(_) => Err(Status::NoMemory),
+    }
+}
+
+/// Puts the closings of the outputs that are named into the buffers.
+fn put_closings(sinks: Sinks, texts: &mut Texts) -> Result<(), NoMemory>
+    ensures { IfOk result (λ _. HasTexts sinks texts.new closing) }
+{
+    put(&mut texts.pdml, sinks.pdml, pdml_out::closing())?;
+    put(&mut texts.psml, sinks.psml, psml_out::closing())?;
+    put(&mut texts.trace, sinks.trace, b"")
+}
+
+/// Writes the closings.
+fn write_closings<H: Host>(host: &mut H, sinks: Sinks, texts: &mut Texts) -> Result<(), Status>
+    requires given { AreGiven sinks (H.outputs host.old).name }
+    requires apart { AreApart sinks }
+    ensures takes { TakesTexts result sinks (H.outputs host.old) (H.outputs host.new) closing }
+    ensures frame { MovesOutputsOnly H.inputs H.files H.faults host.old host.new }
+    ensures cause { IfErr result (HasWriteCause (sink_name sinks (H.outputs host.old).name)
+        (H.faults host.old) (H.faults host.new)) }
+{
+    match put_closings(sinks, texts) {
+        Ok(()) => write_texts(host, sinks, texts),
+        Err(_) => Err(Status::NoMemory),
+    }
+}
+
+/// Decodes a packet and writes its texts, each as one piece.
 fn write_packet<H: Host, A: Answers, L: Ledger>(
     alloc: Global,
     host: &mut H,
-    out: OutId,
+    sinks: Sinks,
     engine: &Engine,
     answers: &mut A,
     packet: &Packet,
     steps: &mut Steps<L>,
-    text: &mut Vec<u8>,
+    texts: &mut Texts,
 ) -> Result<(), Status>
     requires ready { IsReady engine.now }
     requires database { A.database answers.old ≡ engine.now.db }
-    requires given { IsSome ((H.outputs host.old).name out.0) }
+    requires given { AreGiven sinks (H.outputs host.old).name }
+    requires apart { AreApart sinks }
     requires time { packet.now.stamp < STAMP_END }
-    ensures takes { TakesText result out.0 (H.outputs host.old) (H.outputs host.new)
-        (packet_text Role.Pdml engine.now.db packet.now
+    ensures takes { TakesTexts result sinks (H.outputs host.old) (H.outputs host.new)
+        (packet_texts engine.now.db packet.now
         (dec engine.now.db packet.now (A.content answers.old)).result) }
     ensures database { A.database answers.new ≡ engine.now.db }
     ensures session { IfOk result (λ _. A.content answers.new
         ≡ (dec engine.now.db packet.now (A.content answers.old)).session) }
     ensures steps { steps.new ≡ steps.old + 1 }
     ensures frame { MovesOutputsOnly H.inputs H.files H.faults host.old host.new }
-    ensures cause { IfErr result (HasWriteCause ((H.outputs host.old).name out.0)
+    ensures cause { IfErr result (HasWriteCause (sink_name sinks (H.outputs host.old).name)
         (H.faults host.old) (H.faults host.new)) }
 {
-    match engine.decode(alloc, packet, answers, steps, text) {
-        Ok(()) => write_piece(host, out, text.as_slice()),
+    match engine.decode(alloc, packet, answers, steps, sinks, texts) {
+        Ok(()) => write_texts(host, sinks, texts),
         Err(_) => Err(Status::NoMemory),
     }
 }
@@ -65,19 +114,20 @@ fn pass_packet<H: Host, A: Answers, L: Ledger>(
     alloc: Global,
     host: &mut H,
     reader: &mut CapReader,
-    out: OutId,
+    sinks: Sinks,
     engine: &Engine,
     answers: &mut A,
     steps: &mut Steps<L>,
-    text: &mut Vec<u8>,
+    texts: &mut Texts,
 ) -> Result<Option<Status>, Status>
     requires ready { IsReady engine.now }
     requires database { A.database answers.old ≡ engine.now.db }
     requires usable { IsTrue (is_usable reader.old.state) }
     requires input { IsSome ((H.inputs host.old).name reader.old.id.0) }
-    requires output { IsSome ((H.outputs host.old).name out.0) }
+    requires output { AreGiven sinks (H.outputs host.old).name }
+    requires apart { AreApart sinks }
     requires reach { InReach reader.old (H.inputs host.old) }
-    ensures turns { Turns engine.now.db out.0 result
+    ensures turns { Turns engine.now.db sinks result
         (record { reader = reader.old; session = A.content answers.old; inputs = H.inputs host.old; outputs = H.outputs host.old; decoded = steps.old })
         (record { reader = reader.new; session = A.content answers.new; inputs = H.inputs host.new; outputs = H.outputs host.new; decoded = steps.new }) }
     ensures database { A.database answers.new ≡ engine.now.db }
@@ -85,29 +135,29 @@ fn pass_packet<H: Host, A: Answers, L: Ledger>(
     ensures files { H.files host.new ≡ H.files host.old }
     ensures later { NoneFalls (H.faults host.old) (H.faults host.new) }
     ensures cause { IfErr result (HasPacketsCause ((H.inputs host.old).name reader.old.id.0)
-        ((H.outputs host.old).name out.0) (H.faults host.old) (H.faults host.new)) }
+        (sink_name sinks (H.outputs host.old).name) (H.faults host.old) (H.faults host.new)) }
 {
     match next_packet(host, reader)? {
         Following::Packet(packet) => {
-            write_packet(alloc, host, out, engine, answers, &packet, steps, text)?;
+            write_packet(alloc, host, sinks, engine, answers, &packet, steps, texts)?;
             Ok(None)
         }
         Following::End(status) => Ok(Some(status)),
     }
 }
 
-/// Writes the opening, and then one packet after another is read, decoded and written, at most `most` of them. Ok: the
-/// output is to be closed, and then this is the status.
+/// Writes the openings, and then one packet after another is read, decoded and written, at most `most` of them. Ok: the
+/// outputs are to be closed, and then this is the status.
 fn write_packets<H: Host, A: Answers, L: Ledger>(
     alloc: Global,
     host: &mut H,
     mut reader: CapReader,
-    out: OutId,
+    sinks: Sinks,
     engine: &Engine,
     answers: &mut A,
     most: u32,
     steps: &mut Steps<L>,
-    text: &mut Vec<u8>,
+    texts: &mut Texts,
 ) -> Result<Status, Status>
     requires ready { IsReady engine.now }
     requires database { A.database answers.old ≡ engine.now.db }
@@ -116,48 +166,49 @@ fn write_packets<H: Host, A: Answers, L: Ledger>(
     requires reading { IsTrue (is_reading reader.state) }
     requires usable { IsTrue (is_usable reader.state) }
     requires input { IsSome ((H.inputs host.old).name reader.id.0) }
-    requires output { IsSome ((H.outputs host.old).name out.0) }
+    requires output { AreGiven sinks (H.outputs host.old).name }
+    requires apart { AreApart sinks }
     requires reach { InReach reader (H.inputs host.old) }
     requires session { A.content answers.old ≡ declared engine.now.db }
-    ensures ends { Ends engine.now.db out.0 most result
+    ensures ends { Ends engine.now.db sinks most result
         (record { reader = reader; session = A.content answers.old; inputs = H.inputs host.old; outputs = H.outputs host.old; decoded = steps.old })
         (record { reader = reader; session = A.content answers.new; inputs = H.inputs host.new; outputs = H.outputs host.new; decoded = steps.new }) }
     ensures files { H.files host.new ≡ H.files host.old }
     ensures later { NoneFalls (H.faults host.old) (H.faults host.new) }
     ensures cause { IfErr result (HasPacketsCause ((H.inputs host.old).name reader.id.0)
-        ((H.outputs host.old).name out.0) (H.faults host.old) (H.faults host.new)) }
+        (sink_name sinks (H.outputs host.old).name) (H.faults host.old) (H.faults host.new)) }
 {
     serial_front();
     fronts_tell();
-    write_piece(host, out, opening())?;
+    write_openings(alloc, host, sinks, engine, texts)?;
     for _count in 0..most {
         if let Some(status) = pass_packet(
             alloc,
             host,
             &mut reader,
-            out,
+            sinks,
             engine,
             answers,
             steps,
-            text,
+            texts,
         )? {
             return Ok(status);
         }
     }
-    at_limit(host, &mut reader)
+    at_limit(host, &mut reader, most)
 }
 
-/// Writes the packets of a capture, and closes the output where the capture's end is reached.
+/// Writes the packets of a capture, and closes the outputs where its end or the limit is reached.
 fn write_output<H: Host, A: Answers, L: Ledger>(
     alloc: Global,
     host: &mut H,
     reader: CapReader,
-    out: OutId,
+    sinks: Sinks,
     engine: &Engine,
     answers: &mut A,
     most: u32,
     steps: &mut Steps<L>,
-    text: &mut Vec<u8>,
+    texts: &mut Texts,
 ) -> Status
     requires ready { IsReady engine.now }
     requires database { A.database answers.old ≡ engine.now.db }
@@ -166,24 +217,27 @@ fn write_output<H: Host, A: Answers, L: Ledger>(
     requires reading { IsTrue (is_reading reader.state) }
     requires usable { IsTrue (is_usable reader.state) }
     requires input { IsSome ((H.inputs host.old).name reader.id.0) }
-    requires output { IsSome ((H.outputs host.old).name out.0) }
+    requires output { AreGiven sinks (H.outputs host.old).name }
+    requires apart { AreApart sinks }
     requires reach { InReach reader (H.inputs host.old) }
     requires session { A.content answers.old ≡ declared engine.now.db }
-    ensures output { OutputIs engine.now.db most
-        (Took out.0 (H.outputs host.old) (H.outputs host.new))
-        (TookPart out.0 (H.outputs host.old) (H.outputs host.new))
-        (TookFront out.0 (H.outputs host.old) (H.outputs host.new))
+    ensures output { OutputsAre engine.now.db most
+        (TookEach sinks (H.outputs host.old) (H.outputs host.new))
+        (λ role. TookParts role sinks (H.outputs host.old) (H.outputs host.new))
+        (TookFronts sinks (H.outputs host.old) (H.outputs host.new))
         result reader (H.inputs host.old) (H.inputs host.new) }
     ensures inputs { GaveSome reader.id.0 (H.inputs host.old) (H.inputs host.new) }
-    ensures outputs { TookSome out.0 (H.outputs host.old) (H.outputs host.new) }
+    ensures opened { (H.outputs host.new).opened ≡ (H.outputs host.old).opened }
     ensures files { H.files host.new ≡ H.files host.old }
     ensures later { NoneFalls (H.faults host.old) (H.faults host.new) }
     ensures cause { HasPacketsCause ((H.inputs host.old).name reader.id.0)
-        ((H.outputs host.old).name out.0) (H.faults host.old) (H.faults host.new) result }
+        (sink_name sinks (H.outputs host.old).name) (H.faults host.old) (H.faults host.new) result }
 {
     serial_front();
-    match write_packets(alloc, host, reader, out, engine, answers, most, steps, text) {
-        Ok(status) => match write_piece(host, out, closing()) {
+    match write_packets(
+        alloc, host, reader, sinks, engine, answers, most, steps, texts,
+    ) {
+        Ok(status) => match write_closings(host, sinks, texts) {
             Ok(()) => status,
             Err(status) => status,
         },
@@ -196,7 +250,7 @@ fn write_counted<H: Host, A: Answers, L: Ledger>(
     alloc: Global,
     host: &mut H,
     reader: CapReader,
-    out: OutId,
+    sinks: Sinks,
     engine: &Engine,
     answers: &mut A,
     most: u32,
@@ -209,37 +263,38 @@ fn write_counted<H: Host, A: Answers, L: Ledger>(
     requires reading { IsTrue (is_reading reader.state) }
     requires usable { IsTrue (is_usable reader.state) }
     requires input { IsSome ((H.inputs host.old).name reader.id.0) }
-    requires output { IsSome ((H.outputs host.old).name out.0) }
+    requires output { AreGiven sinks (H.outputs host.old).name }
+    requires apart { AreApart sinks }
     requires reach { InReach reader (H.inputs host.old) }
     requires session { A.content answers.old ≡ declared engine.now.db }
     requires name { blank.name ≡ L.name }
     requires parts { blank.parts ≡ L.parts }
     requires some { 0 < blank.parts }
-    ensures output { OutputIs engine.now.db most
-        (Took out.0 (H.outputs host.old) (H.outputs host.new))
-        (TookPart out.0 (H.outputs host.old) (H.outputs host.new))
-        (TookFront out.0 (H.outputs host.old) (H.outputs host.new))
+    ensures output { OutputsAre engine.now.db most
+        (TookEach sinks (H.outputs host.old) (H.outputs host.new))
+        (λ role. TookParts role sinks (H.outputs host.old) (H.outputs host.new))
+        (TookFronts sinks (H.outputs host.old) (H.outputs host.new))
         result reader (H.inputs host.old) (H.inputs host.new) }
     ensures inputs { GaveSome reader.id.0 (H.inputs host.old) (H.inputs host.new) }
-    ensures outputs { TookSome out.0 (H.outputs host.old) (H.outputs host.new) }
+    ensures opened { (H.outputs host.new).opened ≡ (H.outputs host.old).opened }
     ensures files { H.files host.new ≡ H.files host.old }
     ensures later { NoneFalls (H.faults host.old) (H.faults host.new) }
     ensures cause { HasPacketsCause ((H.inputs host.old).name reader.id.0)
-        ((H.outputs host.old).name out.0) (H.faults host.old) (H.faults host.new) result }
+        (sink_name sinks (H.outputs host.old).name) (H.faults host.old) (H.faults host.new) result }
 {
     let mut steps = Steps::<L>::begin(blank);
-    let mut text = Vec::new(alloc);
+    let mut texts = Texts::new(alloc);
     write_output(
-        alloc, host, reader, out, engine, answers, most, &mut steps, &mut text,
+        alloc, host, reader, sinks, engine, answers, most, &mut steps, &mut texts,
     )
 }
 
-/// Opens the output of a name, and writes the packets of a capture to it.
-pub fn write_pdml<H: Host, A: Answers>(
+/// Opens the outputs that are named, and writes the packets of a capture to them, at most `most`.
+pub fn write_named<H: Host, A: Answers>(
     alloc: Global,
     host: &mut H,
     reader: CapReader,
-    name: &str,
+    files: &OutputFiles,
     engine: &Engine,
     answers: &mut A,
     most: u32,
@@ -253,25 +308,25 @@ pub fn write_pdml<H: Host, A: Answers>(
     requires input { IsSome ((H.inputs host.old).name reader.id.0) }
     requires reach { InReach reader (H.inputs host.old) }
     requires session { A.content answers.old ≡ declared engine.now.db }
-    ensures pdml { PdmlIs engine.now.db most name.now result reader
+    ensures named { NamedAre engine.now.db most files.now result reader
         (H.inputs host.old) (H.inputs host.new) (H.outputs host.old) (H.outputs host.new) }
     ensures inputs { GaveSome reader.id.0 (H.inputs host.old) (H.inputs host.new) }
-    ensures opens { OpensOne name.now (H.outputs host.old).opened (H.outputs host.new).opened
-        (ended result) }
+    ensures opens { OpensNames result files.now
+        (H.outputs host.old).opened (H.outputs host.new).opened }
     ensures files { H.files host.new ≡ H.files host.old }
     ensures later { NoneFalls (H.faults host.old) (H.faults host.new) }
-    ensures cause { HasOutputCause ((H.inputs host.old).name reader.id.0) name.now
+    ensures cause { HasOutputsCause ((H.inputs host.old).name reader.id.0) (output_of files.now)
         (H.faults host.old) (H.faults host.new) result }
 {
-    let out = match host.open_out(name) {
-        Ok(out) => out,
-        Err(fail) => return refused(fail, Status::Open { role: Role::Pdml }),
+    let sinks = match open_outputs(host, files) {
+        Ok(sinks) => sinks,
+        Err(status) => return status,
     };
     write_counted::<H, A, Brand>(
         alloc,
         host,
         reader,
-        out,
+        sinks,
         engine,
         answers,
         most,

@@ -1,29 +1,29 @@
-ghost use Rattle.std.specs.Prelude.{◌≡◌, map, string_bytes};
+ghost use Rattle.std.specs.Prelude.{◌≡◌, ◌<◌, ◌≤◌, ◌^◌, length, map, string_bytes};
 ghost use Rattle.npd_host.specs.Host.{NoneFalls};
 ghost use Rattle.npd_top.specs.CheckRun.{CheckSays, CheckOpens};
 ghost use Rattle.npd_top.specs.DecodeRun.{DecodeSays, DecodeOpens};
 ghost use Rattle.npd_top.specs.Outside.{seen};
-ghost use Rattle.npd_top.specs.Run.{HasCause, Means};
+ghost use Rattle.npd_top.specs.Run.{HasCause, Means, WhereUntouched};
 
 use crate::capture::open_capture;
+use crate::job::{CheckFiles, DecodeFiles, Job, job_of};
 use crate::limits::MOST_DATABASE;
-use crate::load::load;
+use crate::load::{load, load_decoder};
 use crate::output::write_line;
-use crate::packets::write_pdml;
-use crate::plan::{CheckFiles, DecodeFiles, Plan, read_plan};
-use crate::served::load_decoder;
+use crate::packets::write_named;
 use crate::status::{Part, Status};
 use crate::totals::{totals_line, totals_of};
-use db_model::NoMemory;
 use npd_host::Host;
+use npd_words::{WordsFail, read_words};
 use pcap_in::laws::{fronts_tell, seen_is_read};
 use std::alloc::Global;
 
-/// Loads the database, opens the capture, and writes the PDML, one packet at a time.
+/// Loads the database, opens the capture and the outputs, and writes the texts of one packet after another.
 fn run_decode<H: Host>(alloc: Global, host: &mut H, files: &DecodeFiles) -> Status
+    requires some { 1 ≤ files.now.max }
     ensures opens { DecodeOpens result files.now (seen H.Host host.old) (seen H.Host host.new) }
     ensures says { DecodeSays result files.now (seen H.Host host.old) (seen H.Host host.new) }
-    ensures cause { HasCause result (Plan.Decode files.now)
+    ensures cause { HasCause result (Job.Decode files.now)
         (seen H.Host host.old) (seen H.Host host.new) }
     ensures files { H.files host.new ≡ H.files host.old }
     ensures later { NoneFalls (H.faults host.old) (H.faults host.new) }
@@ -39,14 +39,14 @@ fn run_decode<H: Host>(alloc: Global, host: &mut H, files: &DecodeFiles) -> Stat
         Ok(reader) => reader,
         Err(status) => return status,
     };
-    write_pdml(
+    write_named(
         alloc,
         host,
         reader,
-        files.pdml.as_str(),
+        &files.outputs,
         &decoder.engine,
         &mut decoder.session,
-        u32::MAX,
+        files.max,
     )
 }
 
@@ -54,7 +54,7 @@ fn run_decode<H: Host>(alloc: Global, host: &mut H, files: &DecodeFiles) -> Stat
 fn run_check<H: Host>(alloc: Global, host: &mut H, files: &CheckFiles) -> Status
     ensures opens { CheckOpens result files.now (seen H.Host host.old) (seen H.Host host.new) }
     ensures says { CheckSays result files.now (seen H.Host host.old) (seen H.Host host.new) }
-    ensures cause { HasCause result (Plan.Check files.now)
+    ensures cause { HasCause result (Job.Check files.now)
         (seen H.Host host.old) (seen H.Host host.new) }
     ensures files { H.files host.new ≡ H.files host.old }
     ensures later { NoneFalls (H.faults host.old) (H.faults host.new) }
@@ -76,25 +76,31 @@ fn run_check<H: Host>(alloc: Global, host: &mut H, files: &CheckFiles) -> Status
 
 /// Serves command words on a host. It always returns.
 ///
-/// `decode --db D --cap C --pdml P --workers 0` reads the database file D and the capture C, and writes to P the PDML
-/// of decoding the packets one by one, in order. `check --db D` loads and checks the database file D, and writes to
-/// standard output how much it declares.
+/// `decode --db D --cap C` reads the database file D and the capture C, and decodes the packets one by one, in order, at
+/// most as many as `--max-packets` says. It writes what is named of: to `--pdml P` their PDML, to `--psml S` their PSML,
+/// and to `--trace T` a line for each. `check --db D` loads and checks the database file D, and writes to standard
+/// output how much it declares.
 ///
 /// The status says how it ended. `Means` is what each status promises, for every list of words, every host,
 /// every told input and every list of failing calls: which status comes exactly where, which only where the
 /// count of faults of the role's own name rose in this call, which files were opened, in order, each once, and
-/// what the output has taken then.
+/// what each output that is named has taken then.
 pub fn run_serial<H: Host>(alloc: Global, words: &[String], host: &mut H) -> Status
+    requires { length words.now < 2 ^ 32 }
     ensures means { Means result (map string_bytes words.now)
         (seen H.Host host.old) (seen H.Host host.new) }
-    ensures untouched { result ≡ Status.Unbuilt Part.Words → host.new ≡ host.old }
+    ensures untouched { WhereUntouched result (host.new ≡ host.old) }
     ensures files { H.files host.new ≡ H.files host.old }
     ensures later { NoneFalls (H.faults host.old) (H.faults host.new) }
 {
-    match read_plan(alloc, words) {
-        Ok(Some(Plan::Decode(files))) => run_decode(alloc, host, &files),
-        Ok(Some(Plan::Check(files))) => run_check(alloc, host, &files),
-        Ok(None) => Status::Unbuilt { part: Part::Words },
-        Err(NoMemory) => Status::NoMemory,
+    let plan = match read_words(alloc, words) {
+        Ok(plan) => plan,
+        Err(WordsFail::Fault { index, code }) => return Status::Words { index, code },
+        Err(WordsFail::NoMemory) => return Status::NoMemory,
+    };
+    match job_of(plan) {
+        Some(Job::Decode(files)) => run_decode(alloc, host, &files),
+        Some(Job::Check(files)) => run_check(alloc, host, &files),
+        None => Status::Unbuilt { part: Part::Words },
     }
 }

@@ -1,6 +1,6 @@
 ghost use Rattle.std.specs.Prelude.{◌≡◌, ◌++◌, ◌∷◌, [], codes, decimal, IfOk};
 ghost use Rattle.npd_top.specs.Causes.{refusal};
-ghost use Rattle.npd_top.specs.Status.{exit_of, line_of, role_word, part_word};
+ghost use Rattle.npd_top.specs.Status.{exit_of, line_of, usage_line, role_word, part_word};
 
 use db_model::{Bytes64, NoMemory};
 use itoa::Buffer;
@@ -13,6 +13,8 @@ pub enum Role {
     Db,
     Cap,
     Pdml,
+    Psml,
+    Trace,
     /// Standard output, for the line of a command.
     Out,
 }
@@ -26,6 +28,8 @@ impl Role {
             Role::Db => "db",
             Role::Cap => "cap",
             Role::Pdml => "pdml",
+            Role::Psml => "psml",
+            Role::Trace => "trace",
             Role::Out => "out",
         }
     }
@@ -35,8 +39,6 @@ impl Role {
 #[derive(Clone, Copy)]
 pub enum Part {
     Words,
-    Database,
-    Capture,
 }
 
 impl Part {
@@ -46,8 +48,6 @@ impl Part {
     {
         match self {
             Part::Words => "words",
-            Part::Database => "database",
-            Part::Capture => "capture",
         }
     }
 }
@@ -55,24 +55,29 @@ impl Part {
 /// How a run ended.
 #[derive(Clone, Copy)]
 pub enum Status {
-    /// What the inputs hold was read to its end, and the output is its whole text.
+    /// What the inputs hold was read to its end, and each named output is its whole text.
     Done,
-    /// The file of this role was not opened. Nothing is written.
+    /// The words ask for nothing: the index of the first word at fault, from 0, and a code, as `npd_words` has them. The
+    /// host is untouched.
+    Words { index: u32, code: u8 },
+    /// The file of this role was not opened. Nothing is written; the outputs before it are opened.
     Open { role: Role },
     /// The file of this role was not read to its end. No output is opened, unless it is the capture and its file
-    /// header was read: then the packets that were wholly read are written, and the output isn't closed.
+    /// header was read: then the packets that were wholly read are written, and the outputs aren't closed.
     Read { role: Role },
-    /// The output of this role did not take its whole text: it holds a proper front of it.
+    /// The output of this role did not take its whole text: it holds a proper front of it, and each other one a front.
     Write { role: Role },
     /// The text of the database is refused, or the check of it, with a line, from 1, and a code. No output is opened.
     Database { line: u32, code: u8 },
     /// The capture is broken, at an offset in bytes and with a code, as `pcap_in` has them. Without a file header no
-    /// output is opened; behind one the packets before the offset are written, and the output is closed.
+    /// output is opened; behind one the packets before the offset are written, and the outputs are closed.
     Capture { offset: u64, code: u8 },
-    /// Memory was refused. No output is opened, or the output holds a front of its whole text.
+    /// More follows in the capture than so many packets: these are written, and the outputs are closed.
+    PacketLimit { max: u32 },
+    /// Memory was refused. Each output that is opened holds a front of its whole text.
     NoMemory,
-    /// This part of the input has a form that isn't built yet. Nothing is written, unless it is the capture, which has
-    /// more than 4,294,967,295 packets: then these are written, and the output isn't closed.
+    /// This part of the input has a form that isn't built yet: words that ask for a report or for a capture to be made.
+    /// The host is untouched.
     Unbuilt { part: Part },
 }
 
@@ -97,29 +102,33 @@ impl From<AllocError> for Status {
 }
 
 impl Status {
-    /// The process's exit number: 0 for `Done`, 3 to 5 for `Open`, `Read` and `Write`, 6 for `Database`, 7 for
-    /// `Capture`, 12 for `NoMemory`, 20 for `Unbuilt`. Takes no memory.
+    /// The process's exit number: 0 for `Done`, 2 for `Words`, 3 to 5 for `Open`, `Read` and `Write`, 6 for `Database`,
+    /// 7 for `Capture`, 8 for `PacketLimit`, 12 for `NoMemory`, 20 for `Unbuilt`. Takes no memory.
     pub fn exit(&self) -> u8
         ensures { result ≡ exit_of self.now }
     {
         match self {
             Status::Done => 0,
+            Status::Words { .. } => 2,
             Status::Open { .. } => 3,
             Status::Read { .. } => 4,
             Status::Write { .. } => 5,
             Status::Database { .. } => 6,
             Status::Capture { .. } => 7,
+            Status::PacketLimit { .. } => 8,
             Status::NoMemory => 12,
             Status::Unbuilt { .. } => 20,
         }
     }
 
-    /// The line for standard error, with its LF. It is empty for `Done`.
+    /// The text for standard error: a line with its LF, and behind a fault of the words a second one on how the program
+    /// is called. It is empty for `Done`.
     pub fn line(&self, alloc: Global) -> Result<Bytes64, NoMemory>
         ensures { IfOk result (λ text. text ≡ line_of self.now) }
     {
         let line = match self {
             Status::Done => Vec::new(alloc),
+            Status::Words { index, code } => usage(alloc, u64::from(*index), *code)?,
             Status::Open { role } => line(alloc, "open ", role.word())?,
             Status::Read { role } => line(alloc, "read ", role.word())?,
             Status::Write { role } => line(alloc, "write ", role.word())?,
@@ -127,6 +136,7 @@ impl Status {
                 fault_line(alloc, "database ", u64::from(*line), *code)?
             }
             Status::Capture { offset, code } => fault_line(alloc, "capture ", *offset, *code)?,
+            Status::PacketLimit { max } => limit_line(alloc, *max)?,
             Status::NoMemory => line(alloc, "no memory", "")?,
             Status::Unbuilt { part } => line(alloc, "unbuilt ", part.word())?,
         };
@@ -159,5 +169,25 @@ fn line(alloc: Global, what: &str, which: &str) -> Result<Vec<u8>, AllocError>
     text.extend_from_slice(what.as_bytes())?;
     text.extend_from_slice(which.as_bytes())?;
     text.push(b'\n')?;
+    Ok(text)
+}
+
+/// The line of a limit of packets.
+fn limit_line(alloc: Global, max: u32) -> Result<Vec<u8>, AllocError>
+    ensures { IfOk result (λ text. text.items
+        ≡ codes "npd: " ++ (codes "packet limit " ++ decimal max) ++ 10 ∷ []) }
+{
+    let mut buffer = Buffer::new();
+    line(alloc, "packet limit ", buffer.format(max))
+}
+
+/// The line of a fault of the words, and the line on how the program is called.
+fn usage(alloc: Global, index: u64, code: u8) -> Result<Vec<u8>, AllocError>
+    ensures { IfOk result (λ text. text.items
+        ≡ (codes "npd: " ++ (codes "words " ++ (decimal index ++ (codes " " ++ decimal code)))
+        ++ 10 ∷ []) ++ usage_line) }
+{
+    let mut text = fault_line(alloc, "words ", index, code)?;
+    text.extend_from_slice(b"usage: npd decode|check|gen --option value ..\n")?;
     Ok(text)
 }

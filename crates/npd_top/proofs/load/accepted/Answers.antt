@@ -1,4 +1,4 @@
-use Rattle.std.proofs.Common.{◌≡◌, ℕ, List, Ok, sym, subst}
+use Rattle.std.proofs.Common.{ℕ, List, Ok, sym, subst}
 use Rattle.db_model.specs.declared.database.Database as model
 use Rattle.db_check.specs.Answer.{Judges}
 use Rattle.db_load.specs.Answer.{Answers}

@@ -1,8 +1,9 @@
-use Rattle.std.proofs.Common.{ap, ◌∙◌, ◌≤◌, ◌+◌, List, ℕ, Err, subst, arith}
+use Rattle.std.proofs.Common.{ap, ◌∙◌, List, ℕ, Err, subst, arith}
 use Rattle.pcap_in.specs.Reader.{Reader}
 use Rattle.npd_top.specs.declared.decoder.Decoder.{Decoder}
-use Rattle.npd_host.specs.Host.{Inputs, Outputs}
+use Rattle.npd_host.specs.Host.{Outputs}
 use Rattle.npd_top.specs.Outside.{seen, OpensOne}
+use Rattle.npd_top.specs.Packets.{OpensNames}
 use Rattle.npd_top.proofs.Causes.{cause_unloaded, cause_unopened, cause_decoded, opens_unloaded, opens_unopened, opens_decoded, two_more}
 use Rattle.npd_top.proofs.Runs.{Rests, says_unloaded, says_unopened, says_decoded}
 use Rattle.npd_top.proofs.run.run_decode.Goals as goal
@@ -41,7 +42,7 @@ returns-in-Err-open_capture-clause-says g c =
     let after = seen H c.open_capture.new.host in
     let capture = c.in-Err-open_capture.ensures in
     let rests : Rests = record { seen = c.seen_is_read.ensures; header = c.fronts_tell.ensures.header } in
-    says_unopened rests c.in-Err-open_capture.status c.args.files.now before after (H.inputs c.load_decoder.new.host) (H.faults c.load_decoder.new.host) c.in-Ok.decoder.engine.db (rw c.as_str.ensures at c.in-Ok.ensures.database)
+    says_unopened rests c.in-Err-open_capture.status c.args.files.now before after (H.inputs c.load_decoder.new.host) (H.faults c.load_decoder.new.host) c.in-Ok.decoder.engine.db c.requires.some (rw c.as_str.ensures at c.in-Ok.ensures.database)
     (rw (c.as_str-2.ensures, c.in-Ok.ensures.frame.files) at capture.capture) c.in-Ok.ensures.keeps (capture.frame.outputs ∙ c.in-Ok.ensures.frame.outputs) (rw c.as_str-2.ensures at capture.cause)
 
 pub returns-in-Err-open_capture-clause-cause : goal.returns-in-Err-open_capture-clause-cause
@@ -55,38 +56,36 @@ pub returns-clause-opens : goal.returns-clause-opens
 returns-clause-opens g c =
     let H = g.H.Host in
     let before = seen H c.args.host.now in
-    let after = seen H c.write_pdml.new.host in
+    let after = seen H c.write_named.new.host in
     let capture = c.in-Ok-open_capture.ensures in
     let db = rw c.as_str.ensures at c.in-Ok.ensures.opens in
     let cap = rw c.as_str-2.ensures at capture.opens in
-    let named = capture.capture.named in
-    let named_cap = rw c.as_str-2.ensures at named in
+    let named_cap = rw c.as_str-2.ensures at capture.capture.named in
     let same = capture.frame.outputs ∙ c.in-Ok.ensures.frame.outputs in
-    opens_decoded c.write_pdml.result c.args.files.now before after (H.faults c.open_capture.new.host)
-    (c.write_pdml.ensures.inputs.gave.opened ∙ two_more _ _ _ c.args.files.now.db c.args.files.now.cap db cap)
-    (subst (λ (n : List ℕ). OpensOne {A = Unit {0}} n before.outputs.opened after.outputs.opened (Err c.write_pdml.result)) c.as_str-3.ensures
-    (subst (λ (o : Outputs). OpensOne {A = Unit {0}} c.as_str-3.result.now o.opened after.outputs.opened (Err c.write_pdml.result)) same c.write_pdml.ensures.opens))
-    (rw (named_cap, c.as_str-3.ensures) at c.write_pdml.ensures.cause)
+    opens_decoded c.write_named.result c.args.files.now before after (H.faults c.open_capture.new.host)
+    (c.write_named.ensures.inputs.gave.opened ∙ two_more _ _ _ c.args.files.now.db c.args.files.now.cap db cap)
+    (subst (λ (o : Outputs). OpensNames c.write_named.result c.args.files.now.outputs o.opened after.outputs.opened) same c.write_named.ensures.opens)
+    (rw named_cap at c.write_named.ensures.cause)
 
 pub returns-clause-says : goal.returns-clause-says
 returns-clause-says g c =
     let H = g.H.Host in
     let before = seen H c.args.host.now in
-    let after = seen H c.write_pdml.new.host in
+    let after = seen H c.write_named.new.host in
     let capture = c.in-Ok-open_capture.ensures in
     let same = capture.frame.outputs ∙ c.in-Ok.ensures.frame.outputs in
     let rests : Rests = record { seen = c.seen_is_read.ensures; header = c.fronts_tell.ensures.header } in
-    says_decoded rests c.write_pdml.result c.args.files.now before after (H.inputs c.load_decoder.new.host) (H.inputs c.open_capture.new.host) c.in-Ok.decoder.engine.db c.in-Ok-open_capture.reader
+    says_decoded rests c.args.files.now before after (H.inputs c.load_decoder.new.host) (H.inputs c.open_capture.new.host) c.in-Ok.decoder.engine.db c.in-Ok-open_capture.reader c.requires.some
     (rw c.as_str.ensures at c.in-Ok.ensures.database)
     (rw (c.as_str-2.ensures, c.in-Ok.ensures.frame.files) at capture.capture) c.in-Ok.ensures.keeps
-    (rw (c.as_str-3.ensures, same) at c.write_pdml.ensures.pdml)
+    c.write_named.result (rw same at c.write_named.ensures.named)
 
 pub returns-clause-cause : goal.returns-clause-cause
 returns-clause-cause g c =
     let H = g.H.Host in
     let before = seen H c.args.host.now in
-    let after = seen H c.write_pdml.new.host in
+    let after = seen H c.write_named.new.host in
     let capture = c.in-Ok-open_capture.ensures in
     let named_cap = rw c.as_str-2.ensures at capture.capture.named in
-    cause_decoded c.write_pdml.result c.args.files.now before after (H.faults c.open_capture.new.host) (λ kind name. omega (arith, capture.frame.later kind name, c.in-Ok.ensures.frame.later kind name))
-    (rw (named_cap, c.as_str-3.ensures) at c.write_pdml.ensures.cause)
+    cause_decoded c.write_named.result c.args.files.now before after (H.faults c.open_capture.new.host) (λ kind name. omega (arith, capture.frame.later kind name, c.in-Ok.ensures.frame.later kind name))
+    (rw named_cap at c.write_named.ensures.cause)

@@ -1,11 +1,10 @@
 -- The texts of packets: more packets behind leave those of the first ones, and one packet more is one text more.
-use Rattle.std.proofs.Common.{◌≡◌, ℕ, zero, suc, ◌+◌, ◌<◌, ◌≤◌, List, [], ◌∷◌, ◌++◌, length, Option, Some, None, refl, sym, ap, ◌∙◌, append_assoc, append-nil, length-append, arith}
+use Rattle.std.proofs.Common.{◌≡◌, ℕ, zero, suc, ◌+◌, ◌<◌, ◌≤◌, List, [], ◌∷◌, ◌++◌, length, Option, Some, refl, sym, ap, ◌∙◌, append_assoc, append-nil, length-append, arith}
 use Rattle.std.specs.Prelude.{slice_get}
 use Rattle.db_model.specs.declared.database.Database.{Database}
 use Rattle.db_model.specs.declared.packet.Packet.{Packet}
-use Rattle.db_model.specs.declared.tree.Proto.{Proto}
 use Rattle.db_model.specs.Decoding.{dec}
-use Rattle.db_model.specs.Serial.{decoded, state, tree}
+use Rattle.db_model.specs.Serial.{decoded, state}
 use Rattle.db_model.specs.Session.{Session, declared}
 use Rattle.db_laws.specs.Laws.{SerialFront}
 use Rattle.npd_top.specs.declared.status.Role.{Role}

@@ -1,0 +1,268 @@
+-- What open outputs took: nothing, one piece after another, fronts of them.
+use Rattle.std.proofs.Common.{◌≡◌, ◌<◌, ℕ, List, [], ◌++◌, length, Option, Some, None, Result, Ok, Err, refl, sym, ap, ◌∙◌, subst, IfSome, append_assoc, append-nil, length-append, arith}
+use Rattle.std.specs.Prelude.{IsSomeAnd}
+use Rattle.std.specs.Io.KnownBytes.{append_known}
+use Rattle.npd_host.specs.declared.host.HostFail.{HostFail}
+use Rattle.npd_host.specs.declared.host.HostFail.TheVariants as host
+use Rattle.npd_host.specs.declared.host.OutId.{OutId}
+use Rattle.npd_host.specs.Host.{Outputs, Took, TookPart}
+use Rattle.npd_top.specs.declared.sinks.Sinks.{Sinks}
+use Rattle.npd_top.specs.declared.status.Role.{Role}
+use Rattle.npd_top.specs.declared.status.Role.TheVariants.{Db, Cap, Pdml, Psml, Trace, Out}
+use Rattle.npd_top.specs.declared.status.Status.{Status}
+use Rattle.npd_top.specs.declared.status.Status.TheVariants.{Done, Words, Open, Read, Write, Database, Capture, PacketLimit, NoMemory, Unbuilt}
+use Rattle.npd_top.specs.declared.texts.Texts.{Texts}
+use Rattle.npd_top.specs.Causes.{refusal}
+use Rattle.npd_top.specs.Outputs.{no_texts}
+use Rattle.npd_top.specs.Taken.{TookEach, TookFronts, TookParts, FailsTexts, TakesTexts, only, bytes_of, HasTexts}
+use Rattle.npd_top.specs.Written.{sink_of, AreApart}
+use Rattle.npd_top.proofs.Told.{told_all, told_map, told_both, told_here, match_map, none_is_some}
+
+append_known-nil : (taken : Option (List ℕ)) → taken ≡ append_known taken []
+append_known-nil None = refl
+append_known-nil (Some bytes) = ap Some (sym (append-nil bytes))
+
+append_known-append : (taken : Option (List ℕ)) (xs ys : List ℕ) → append_known (append_known taken xs) ys ≡ append_known taken (xs ++ ys)
+append_known-append None xs ys = refl
+append_known-append (Some bytes) xs ys = ap Some (append_assoc bytes xs ys)
+
+module _ (sinks : Sinks) where
+  -- before the first piece nothing was taken
+  pub each_none : (r : Outputs) → TookEach sinks r r no_texts
+  each_none r = record {
+    opened = refl;
+    names = refl;
+    taken = λ role. told_all (sink_of sinks role) (λ sink. r.taken sink.0 ≡ append_known (r.taken sink.0) []) (λ sink. append_known-nil (r.taken sink.0));
+    others = λ id h. refl;
+  }
+
+  -- one piece and then another
+  pub each_then : (r s t : Outputs) (xs ys : Role → List ℕ) → TookEach sinks r s xs → TookEach sinks s t ys → TookEach sinks r t (λ role. xs role ++ ys role)
+  each_then r s t xs ys p q = record {
+    opened = q.opened ∙ p.opened;
+    names = q.names ∙ p.names;
+    taken = λ role. told_both (sink_of sinks role) (λ sink. s.taken sink.0 ≡ append_known (r.taken sink.0) (xs role)) (λ sink. t.taken sink.0 ≡ append_known (s.taken sink.0) (ys role))
+        (λ sink. t.taken sink.0 ≡ append_known (r.taken sink.0) (xs role ++ ys role))
+        (λ sink a b. b ∙ ap (λ (o : Option (List ℕ)). append_known o (ys role)) a ∙ append_known-append (r.taken sink.0) (xs role) (ys role)) (p.taken role) (q.taken role);
+    others = λ id h. q.others id h ∙ p.others id h;
+  }
+
+  -- the same text in other words, of each role that has an output
+  pub each_alike : (r t : Outputs) (xs ys : Role → List ℕ) → ((role : Role) → IfSome (sink_of sinks role) (λ sink. xs role ≡ ys role)) → TookEach sinks r t xs → TookEach sinks r t ys
+  each_alike r t xs ys same p = record {
+    opened = p.opened;
+    names = p.names;
+    taken = λ role. told_both (sink_of sinks role) (λ sink. xs role ≡ ys role) (λ sink. t.taken sink.0 ≡ append_known (r.taken sink.0) (xs role)) (λ sink. t.taken sink.0 ≡ append_known (r.taken sink.0) (ys role))
+        (λ sink e a. a ∙ ap (append_known (r.taken sink.0)) e) (same role) (p.taken role);
+    others = p.others;
+  }
+
+  pub fronts_alike : (r t : Outputs) (xs ys : Role → List ℕ) → ((role : Role) → IfSome (sink_of sinks role) (λ sink. xs role ≡ ys role)) → TookFronts sinks r t xs → TookFronts sinks r t ys
+  fronts_alike r t xs ys same p = record {
+    front = p.front;
+    back = p.back;
+    parts = λ role. told_both (sink_of sinks role) (λ sink. xs role ≡ ys role) (λ sink. xs role ≡ p.front role ++ p.back role) (λ sink. ys role ≡ p.front role ++ p.back role)
+        (λ sink e a. sym e ∙ a) (same role) (p.parts role);
+    took = p.took;
+  }
+
+  pub fails_alike : (status : Status) (r t : Outputs) (xs ys : Role → List ℕ) → ((role : Role) → IfSome (sink_of sinks role) (λ sink. xs role ≡ ys role)) → FailsTexts status sinks r t xs → FailsTexts status sinks r t ys
+  unfolding fronts_alike
+  fails_alike Done r t xs ys same p = absurd p
+  fails_alike (Words index code) r t xs ys same p = absurd p
+  fails_alike (Open role) r t xs ys same p = absurd p
+  fails_alike (Read role) r t xs ys same p = absurd p
+  fails_alike (Write role) r t xs ys same p = record { fronts = fronts_alike r t xs ys same p.fronts; proper = p.proper }
+  fails_alike (Database line code) r t xs ys same p = absurd p
+  fails_alike (Capture offset code) r t xs ys same p = absurd p
+  fails_alike (PacketLimit max) r t xs ys same p = absurd p
+  fails_alike NoMemory r t xs ys same p = fronts_alike r t xs ys same p
+  fails_alike (Unbuilt which) r t xs ys same p = absurd p
+
+  pub takes_alike : {A : Type 0} (result : Result A Status) (texts : Texts) (r t : Outputs) (ys : Role → List ℕ) → HasTexts sinks texts ys → TakesTexts result sinks r t (bytes_of texts) → TakesTexts result sinks r t ys
+  takes_alike (Ok done) texts r t ys same p = each_alike r t (bytes_of texts) ys same p
+  takes_alike (Err status) texts r t ys same p = fails_alike status r t (bytes_of texts) ys same p
+
+  -- all of it is a front
+  pub fronts_all : (r t : Outputs) (xs : Role → List ℕ) → TookEach sinks r t xs → TookFronts sinks r t xs
+  fronts_all r t xs p = record {
+    front = xs;
+    back = no_texts;
+    parts = λ role. told_all (sink_of sinks role) (λ sink. xs role ≡ xs role ++ []) (λ sink. sym (append-nil (xs role)));
+    took = p;
+  }
+
+  -- so is nothing
+  pub fronts_none : (r : Outputs) (xs : Role → List ℕ) → TookFronts sinks r r xs
+  fronts_none r xs = record {
+    front = no_texts;
+    back = xs;
+    parts = λ role. told_all (sink_of sinks role) (λ sink. xs role ≡ xs role) (λ sink. refl);
+    took = each_none r;
+  }
+
+  -- whole pieces, then fronts of the next ones; more may follow
+  pub fronts_then : (r s t : Outputs) (xs ys zs whole : Role → List ℕ) → TookEach sinks r s xs → TookFronts sinks s t ys → ((role : Role) → whole role ≡ xs role ++ (ys role ++ zs role)) → TookFronts sinks r t whole
+  fronts_then r s t xs ys zs whole p q e = record {
+    front = λ role. xs role ++ q.front role;
+    back = λ role. q.back role ++ zs role;
+    parts = λ role. told_map (sink_of sinks role) (λ sink. ys role ≡ q.front role ++ q.back role) (λ sink. whole role ≡ (xs role ++ q.front role) ++ (q.back role ++ zs role))
+        (λ sink d. regroup (whole role) (xs role) (ys role) (zs role) (q.front role) (q.back role) (e role) d) (q.parts role);
+    took = each_then r s t xs q.front p q.took;
+  }
+    where
+      regroup : (all x y z f b : List ℕ) → all ≡ x ++ (y ++ z) → y ≡ f ++ b → all ≡ (x ++ f) ++ (b ++ z)
+      regroup all x y z f b g d = g ∙ ap (λ (l : List ℕ). x ++ (l ++ z)) d ∙ ap (λ (l : List ℕ). x ++ l) (append_assoc f b z) ∙ sym (append_assoc x f (b ++ z))
+
+  pub parts_then : (failed : Role) (r s t : Outputs) (xs ys zs whole : Role → List ℕ) → TookEach sinks r s xs → TookParts failed sinks s t ys → ((role : Role) → whole role ≡ xs role ++ (ys role ++ zs role)) → TookParts failed sinks r t whole
+  unfolding fronts_then
+  parts_then failed r s t xs ys zs whole p q e = record {
+    fronts = fronts_then r s t xs ys zs whole p q.fronts e;
+    proper = match_map (sink_of sinks failed) (λ sink. 0 < length (q.fronts.back failed)) (λ sink. 0 < length (q.fronts.back failed ++ zs failed))
+        (λ sink h. longer (q.fronts.back failed) (zs failed) h) q.proper;
+  }
+    where
+      longer : (b z : List ℕ) → 0 < length b → 0 < length (b ++ z)
+      longer b z h = omega (arith, length-append b z)
+
+  pub fails_then : (status : Status) (r s t : Outputs) (xs ys zs whole : Role → List ℕ) → TookEach sinks r s xs → FailsTexts status sinks s t ys → ((role : Role) → whole role ≡ xs role ++ (ys role ++ zs role)) → FailsTexts status sinks r t whole
+  fails_then Done r s t xs ys zs whole p q e = absurd q
+  fails_then (Words index code) r s t xs ys zs whole p q e = absurd q
+  fails_then (Open role) r s t xs ys zs whole p q e = absurd q
+  fails_then (Read role) r s t xs ys zs whole p q e = absurd q
+  fails_then (Write role) r s t xs ys zs whole p q e = parts_then role r s t xs ys zs whole p q e
+  fails_then (Database line code) r s t xs ys zs whole p q e = absurd q
+  fails_then (Capture offset code) r s t xs ys zs whole p q e = absurd q
+  fails_then (PacketLimit max) r s t xs ys zs whole p q e = absurd q
+  fails_then NoMemory r s t xs ys zs whole p q e = fronts_then r s t xs ys zs whole p q e
+  fails_then (Unbuilt which) r s t xs ys zs whole p q e = absurd q
+
+  -- the last piece
+  pub takes_last : {A : Type 0} (result : Result A Status) (r s t : Outputs) (xs ys whole : Role → List ℕ) → TookEach sinks r s xs → TakesTexts result sinks s t ys → ((role : Role) → whole role ≡ xs role ++ (ys role ++ [])) → TakesTexts result sinks r t whole
+  takes_last (Ok done) r s t xs ys whole p q e =
+      each_alike r t (λ role. xs role ++ ys role) whole
+      (λ role. told_all (sink_of sinks role) (λ sink. xs role ++ ys role ≡ whole role) (λ sink. ap (λ (l : List ℕ). xs role ++ l) (sym (append-nil (ys role))) ∙ sym (e role))) (each_then r s t xs ys p q)
+  takes_last (Err status) r s t xs ys whole p q e = fails_then status r s t xs ys no_texts whole p q e
+
+-- ---- the piece of one role
+
+pdml_psml : ◌≡◌ {A = Role} Pdml Psml → ⊥
+pdml_psml e = cc
+
+pdml_trace : ◌≡◌ {A = Role} Pdml Trace → ⊥
+pdml_trace e = cc
+
+psml_trace : ◌≡◌ {A = Role} Psml Trace → ⊥
+psml_trace e = cc
+
+same_taken : (o : Option OutId) (sink : OutId) (s t : Outputs) (bytes : List ℕ) → o ≡ Some sink → Took sink.0 s t bytes → IfSome o (λ k. t.taken k.0 ≡ append_known (s.taken k.0) bytes)
+same_taken o sink s t bytes e took =
+    let P : Option OutId → Type 0 = λ p. IfSome p (λ k. t.taken k.0 ≡ append_known (s.taken k.0) bytes) in
+    subst P (sym e) took.taken
+
+other_taken : (o : Option OutId) (sink : OutId) (s t : Outputs) (bytes : List ℕ) → IfSome o (λ y. y.0 ≡ sink.0 → ⊥) → Took sink.0 s t bytes → IfSome o (λ k. t.taken k.0 ≡ append_known (s.taken k.0) [])
+other_taken None sink s t bytes differs took = tt
+other_taken (Some k) sink s t bytes differs took = took.others k.0 differs ∙ append_known-nil (s.taken k.0)
+
+module _ (sinks : Sinks) (apart : AreApart sinks) (sink : OutId) (s t : Outputs) where
+  -- the output of another role is another one
+  away : (role other : Role) → (role ≡ other → ⊥) → sink_of sinks role ≡ Some sink → IfSome (sink_of sinks other) (λ y. y.0 ≡ sink.0 → ⊥)
+  away role other differs e = told_here (sink_of sinks role) sink (λ x. IfSome (sink_of sinks other) (λ y. y.0 ≡ x.0 → ⊥)) e (apart role other differs)
+
+  one_taken : (role : Role) (text : Role → List ℕ) → sink_of sinks role ≡ Some sink → Took sink.0 s t (text role) → (other : Role) → IfSome (sink_of sinks other) (λ k. t.taken k.0 ≡ append_known (s.taken k.0) (only role text other))
+  one_taken Db text e took other = absurd (none_is_some e)
+  one_taken Cap text e took other = absurd (none_is_some e)
+  one_taken Out text e took other = absurd (none_is_some e)
+  one_taken Pdml text e took Pdml = same_taken sinks.pdml sink s t (text Pdml) e took
+  one_taken Pdml text e took Psml = other_taken sinks.psml sink s t (text Pdml) (away Pdml Psml pdml_psml e) took
+  one_taken Pdml text e took Trace = other_taken sinks.trace sink s t (text Pdml) (away Pdml Trace pdml_trace e) took
+  one_taken Pdml text e took Db = tt
+  one_taken Pdml text e took Cap = tt
+  one_taken Pdml text e took Out = tt
+  one_taken Psml text e took Pdml = other_taken sinks.pdml sink s t (text Psml) (away Psml Pdml (λ h. pdml_psml (sym h)) e) took
+  one_taken Psml text e took Psml = same_taken sinks.psml sink s t (text Psml) e took
+  one_taken Psml text e took Trace = other_taken sinks.trace sink s t (text Psml) (away Psml Trace psml_trace e) took
+  one_taken Psml text e took Db = tt
+  one_taken Psml text e took Cap = tt
+  one_taken Psml text e took Out = tt
+  one_taken Trace text e took Pdml = other_taken sinks.pdml sink s t (text Trace) (away Trace Pdml (λ h. pdml_trace (sym h)) e) took
+  one_taken Trace text e took Psml = other_taken sinks.psml sink s t (text Trace) (away Trace Psml (λ h. psml_trace (sym h)) e) took
+  one_taken Trace text e took Trace = same_taken sinks.trace sink s t (text Trace) e took
+  one_taken Trace text e took Db = tt
+  one_taken Trace text e took Cap = tt
+  one_taken Trace text e took Out = tt
+
+  pub one_took : (role : Role) (text : Role → List ℕ) → sink_of sinks role ≡ Some sink → Took sink.0 s t (text role) → TookEach sinks s t (only role text)
+  one_took role text e took = record {
+    opened = took.opened;
+    names = took.names;
+    taken = one_taken role text e took;
+    others = λ id h. took.others id (told_here (sink_of sinks role) sink (λ k. id ≡ k.0 → ⊥) e (h role));
+  }
+
+  only_parts : (role : Role) (text : Role → List ℕ) (f b : List ℕ) → text role ≡ f ++ b → (other : Role) → only role text other ≡ only role (λ r. f) other ++ only role (λ r. b) other
+  only_parts Db text f b h other = refl
+  only_parts Cap text f b h other = refl
+  only_parts Out text f b h other = refl
+  only_parts Pdml text f b h Pdml = h
+  only_parts Pdml text f b h Psml = refl
+  only_parts Pdml text f b h Trace = refl
+  only_parts Pdml text f b h Db = refl
+  only_parts Pdml text f b h Cap = refl
+  only_parts Pdml text f b h Out = refl
+  only_parts Psml text f b h Pdml = refl
+  only_parts Psml text f b h Psml = h
+  only_parts Psml text f b h Trace = refl
+  only_parts Psml text f b h Db = refl
+  only_parts Psml text f b h Cap = refl
+  only_parts Psml text f b h Out = refl
+  only_parts Trace text f b h Pdml = refl
+  only_parts Trace text f b h Psml = refl
+  only_parts Trace text f b h Trace = h
+  only_parts Trace text f b h Db = refl
+  only_parts Trace text f b h Cap = refl
+  only_parts Trace text f b h Out = refl
+
+  only_itself : (role : Role) (text : Role → List ℕ) → sink_of sinks role ≡ Some sink → only role text role ≡ text role
+  only_itself Db text e = absurd (none_is_some e)
+  only_itself Cap text e = absurd (none_is_some e)
+  only_itself Out text e = absurd (none_is_some e)
+  only_itself Pdml text e = refl
+  only_itself Psml text e = refl
+  only_itself Trace text e = refl
+
+  pub one_part : (role : Role) (text : Role → List ℕ) → sink_of sinks role ≡ Some sink → TookPart sink.0 s t (text role) → TookParts role sinks s t (only role text)
+  one_part role text e part =
+      let some : 0 < length (only role (λ r. part.back) role) = rw (only_itself role (λ r. part.back) e) part.proper in
+      record {
+        fronts = record {
+          front = only role (λ r. part.front);
+          back = only role (λ r. part.back);
+          parts = λ other. told_all (sink_of sinks other) (λ k. only role text other ≡ only role (λ r. part.front) other ++ only role (λ r. part.back) other)
+              (λ k. only_parts role text part.front part.back part.parts other);
+          took = one_took role (λ r. part.front) e part.took;
+        };
+        proper = (let P : Option OutId → Type 0 = λ o. IsSomeAnd o (λ k. 0 < length (only role (λ r. part.back) role)) in subst P (sym e) some);
+      }
+
+-- the writing of the piece was refused
+pub piece_refused : (sinks : Sinks) (apart : AreApart sinks) (sink : OutId) (s t : Outputs) (fail : HostFail) (role : Role) (text : Role → List ℕ) → sink_of sinks role ≡ Some sink → TookPart sink.0 s t (text role) → FailsTexts (refusal (Write role) fail) sinks s t (only role text)
+piece_refused sinks apart sink s t host.Failed role text e part = one_part sinks apart sink s t role text e part
+piece_refused sinks apart sink s t host.NoMemory role text e part = (one_part sinks apart sink s t role text e part).fronts
+
+-- ---- the pieces of all roles
+
+-- PDML, PSML and trace are all
+pub all_roles : (texts : Texts) (role : Role) → bytes_of texts role ≡ only Pdml (bytes_of texts) role ++ (only Psml (bytes_of texts) role ++ only Trace (bytes_of texts) role)
+all_roles texts Db = refl
+all_roles texts Cap = refl
+all_roles texts Pdml = sym (append-nil texts.pdml.items)
+all_roles texts Psml = sym (append-nil texts.psml.items)
+all_roles texts Trace = refl
+all_roles texts Out = refl
+
+pub last_role : (texts : Texts) (role : Role) → bytes_of texts role ≡ (only Pdml (bytes_of texts) role ++ only Psml (bytes_of texts) role) ++ (only Trace (bytes_of texts) role ++ [])
+last_role texts role = all_roles texts role ∙ regroup (only Pdml (bytes_of texts) role) (only Psml (bytes_of texts) role) (only Trace (bytes_of texts) role)
+  where
+    regroup : (a b c : List ℕ) → a ++ (b ++ c) ≡ (a ++ b) ++ (c ++ [])
+    regroup a b c = sym (append_assoc a b c) ∙ ap (λ (l : List ℕ). (a ++ b) ++ l) (sym (append-nil c))

@@ -1,0 +1,67 @@
+ghost use Rattle.std.specs.Prelude.{◌≡◌};
+ghost use Rattle.npd_top.specs.Jobs;
+
+use db_model::Word;
+use npd_words::Plan;
+
+/// The outputs that a decode names.
+#[derive(Drop)]
+pub struct OutputFiles {
+    pub pdml: Option<Word>,
+    pub psml: Option<Word>,
+    pub trace: Option<Word>,
+}
+
+/// The files of a decode, and how many packets are read at most.
+#[derive(Drop)]
+pub struct DecodeFiles {
+    pub db: Word,
+    pub cap: Word,
+    pub outputs: OutputFiles,
+    pub max: u32,
+}
+
+/// The file of a check.
+#[derive(Drop)]
+pub struct CheckFiles {
+    pub db: Word,
+}
+
+/// What the command words ask of the program.
+#[derive(Drop)]
+pub enum Job {
+    /// Decode the capture by the database, and write the outputs that are named.
+    Decode(DecodeFiles),
+    /// Load and check the database, and write to standard output how much it declares.
+    Check(CheckFiles),
+}
+
+/// The job that a plan is. None: it names a report, or asks for a capture to be made.
+pub fn job_of(plan: Plan) -> Option<Job>
+    ensures { result ≡ Jobs.job_of plan }
+{
+    match plan {
+        Plan::Decode {
+            db,
+            cap,
+            pdml,
+            psml,
+            trace,
+            report: None,
+            workers: _,
+            window: _,
+            max,
+        } => Some(Job::Decode(DecodeFiles {
+            db,
+            cap,
+            outputs: OutputFiles { pdml, psml, trace },
+            max,
+        })),
+        Plan::Decode {
+            report: Some(_),
+            ..
+        } => None,
+        Plan::Check { db } => Some(Job::Check(CheckFiles { db })),
+        Plan::Gen { .. } => None,
+    }
+}

@@ -1,0 +1,64 @@
+ghost use Rattle.std.specs.Prelude.{◌≡◌, IfErr};
+ghost use Rattle.npd_host.specs.Host.{MovesOutputsOnly};
+ghost use Rattle.npd_top.specs.Causes.{HasOpenCause, HasNamedCause};
+ghost use Rattle.npd_top.specs.Jobs.{output_of};
+ghost use Rattle.npd_top.specs.Taken.{OpensNamed, OpensOutputs};
+ghost use Rattle.npd_top.specs.Written.{sink_of};
+
+use crate::job::OutputFiles;
+use crate::status::{Role, Status, refused};
+use db_model::Word;
+use npd_host::{Host, OutId};
+
+/// The open outputs of packets. None: it isn't named.
+#[derive(Clone, Copy)]
+pub struct Sinks {
+    pub pdml: Option<OutId>,
+    pub psml: Option<OutId>,
+    pub trace: Option<OutId>,
+}
+
+impl Sinks {
+    /// The output of a role.
+    pub fn of(self, role: Role) -> Option<OutId>
+        ensures { result ≡ sink_of self role }
+    {
+        match role {
+            Role::Pdml => self.pdml,
+            Role::Psml => self.psml,
+            Role::Trace => self.trace,
+            Role::Db | Role::Cap | Role::Out => None,
+        }
+    }
+}
+
+/// Opens the output of a role where it is named.
+fn open_named<H: Host>(
+    host: &mut H,
+    role: Role,
+    name: &Option<Word>,
+) -> Result<Option<OutId>, Status>
+    ensures opens { OpensNamed result role name.now (H.outputs host.old) (H.outputs host.new) }
+    ensures frame { MovesOutputsOnly H.inputs H.files H.faults host.old host.new }
+    ensures cause { IfErr result (HasNamedCause role name.now (H.faults host.old) (H.faults host.new)) }
+{
+    let Some(name) = name else {
+        return Ok(None);
+    };
+    match host.open_out(name.as_str()) {
+        Ok(id) => Ok(Some(id)),
+        Err(fail) => Err(refused(fail, Status::Open { role })),
+    }
+}
+
+/// Opens the outputs that are named: PDML, PSML, trace.
+pub fn open_outputs<H: Host>(host: &mut H, files: &OutputFiles) -> Result<Sinks, Status>
+    ensures opens { OpensOutputs result files.now (H.outputs host.old) (H.outputs host.new) }
+    ensures frame { MovesOutputsOnly H.inputs H.files H.faults host.old host.new }
+    ensures cause { IfErr result (HasOpenCause (output_of files.now) (H.faults host.old) (H.faults host.new)) }
+{
+    let pdml = open_named(host, Role::Pdml, &files.pdml)?;
+    let psml = open_named(host, Role::Psml, &files.psml)?;
+    let trace = open_named(host, Role::Trace, &files.trace)?;
+    Ok(Sinks { pdml, psml, trace })
+}
