@@ -115,14 +115,17 @@ OpenedWith files outputs before after = Opened (files.db ∷ files.cap ∷ []) o
 -- which files were opened, whatever the host tells: the database first, the capture only behind an accepted database,
 -- the outputs only behind a file header, in their order
 abbrev pub DecodeOpens : Status → DecodeFiles → Outside → Outside → Type 0
+DecodeOpens Done files before after = OpenedWith files (names_of files.outputs) before after
 DecodeOpens (Open Db) files before after = Opened [] [] before after
 DecodeOpens (Open Cap) files before after = Opened (files.db ∷ []) [] before after
 DecodeOpens (Open role) files before after = OpenedWith files (names_of (before_role role files.outputs)) before after
 DecodeOpens (Read Db) files before after = Opened (files.db ∷ []) [] before after
 DecodeOpens (Read Cap) files before after = OpenedWith files [] before after ⊎ OpenedWith files (names_of files.outputs) before after
+DecodeOpens (Write role) files before after = OpenedWith files (names_of files.outputs) before after
 DecodeOpens (Database line code) files before after = Opened (files.db ∷ []) [] before after
 DecodeOpens (Capture offset code) files before after = OpenedWith files [] before after ⊎ OpenedWith files (names_of files.outputs) before after
+DecodeOpens (PacketLimit max) files before after = OpenedWith files (names_of files.outputs) before after
 DecodeOpens NoMemory files before after =
     Opened [] [] before after ⊎ Opened (files.db ∷ []) [] before after
     ⊎ ((next : Role) × OpenedWith files (names_of (before_role next files.outputs)) before after)
-DecodeOpens behind files before after = OpenedWith files (names_of files.outputs) before after
+DecodeOpens never files before after = ⊥
