@@ -6,6 +6,8 @@ ghost use Rattle.std.specs.Prelude.{◌<◌, ◌≤◌, ◌^◌, length};
 
 use npd_host::FileHost;
 use npd_top::{Status, run_serial};
+use npd_words::{WordsFail, read_words};
+use std::alloc::Global;
 use std::process::ExitCode;
 use std::rt::Env;
 use std::{env, io, str};
@@ -22,32 +24,59 @@ fn words(rt: &(impl Env + AllocGlobal)) -> io::Result<Vec<String>> {
 /// The most bytes that a word has on this system.
 const LONGEST_WORD: usize = 131_072;
 
-/// The index of the first word that is no UTF-8 text.
-fn first_unreadable(rt: &(impl Env + AllocGlobal)) -> Option<u32> {
-    let mut word = vec![in rt.alloc(); 0u8; LONGEST_WORD].ok()?;
-    for index in 0..u32::MAX - 1 {
-        match rt.arg(index as usize + 1, word.as_mut_slice()) {
-            Ok(length) => {
-                if str::from_utf8(&word[..length]).is_err() {
-                    return Some(index);
-                }
-            }
-            Err(_) => return None,
-        }
+/// The words in front of the first one that is no UTF-8 text.
+fn readable_words(rt: &(impl Env + AllocGlobal)) -> io::Result<Vec<String>> {
+    let mut room = vec![in rt.alloc(); 0u8; LONGEST_WORD]?;
+    let mut words = Vec::new(rt.alloc());
+    for index in 1..u32::MAX {
+        let Ok(length) = rt.arg(index as usize, room.as_mut_slice()) else {
+            break;
+        };
+        let Ok(word) = str::from_utf8(&room[..length]) else {
+            break;
+        };
+        words.push(String::from_str(rt.alloc(), word)?)?;
     }
-    None
+    Ok(words)
 }
 
-/// The status where the words can't be had: memory was refused, or one of them is no UTF-8 text, and so neither a
-/// command nor an option.
+/// Whether a fault of the words in front of another one comes before that, whatever it is: codes 2 to 7 do, but for a
+/// value that only doesn't follow since these words end.
+fn stands_before(index: u32, at: u32, code: u8) -> bool {
+    match code {
+        2 | 3 | 4 | 6 | 7 => true,
+        5 => index > at.saturating_add(1),
+        _ => false,
+    }
+}
+
+/// The status where the word behind these is no UTF-8 text, and so neither a command nor an option: the first fault
+/// from the left, theirs or its own.
+fn unreadable(alloc: Global, front: &[String]) -> Status
+    requires { length front.now < 2 ^ 32 }
+{
+    let index = front.len() as u32;
+    match read_words(alloc, front) {
+        Err(WordsFail::NoMemory) => return Status::NoMemory,
+        Err(WordsFail::Fault { index: at, code }) => {
+            if stands_before(index, at, code) {
+                return Status::Words { index: at, code };
+            }
+        }
+        Ok(_) => {}
+    }
+    let code = if index == 0 { 2 } else { 3 };
+    Status::Words { index, code }
+}
+
+/// The status where the words can't be had: memory was refused, or one of them is no UTF-8 text.
 fn refused(rt: &(impl Env + AllocGlobal), error: &io::Error) -> Status {
     if error.kind() == io::ErrorKind::OutOfMemory {
         return Status::NoMemory;
     }
-    match first_unreadable(rt) {
-        Some(0) => Status::Words { index: 0, code: 2 },
-        Some(index) => Status::Words { index, code: 3 },
-        None => Status::NoMemory,
+    match readable_words(rt) {
+        Ok(front) => unreadable(rt.alloc(), enough(front.as_slice())),
+        Err(_) => Status::NoMemory,
     }
 }
 
