@@ -3,6 +3,7 @@ pub mod ElementExamples
 pub mod Examples
 pub mod FaultExamples
 pub mod KeyedSample
+pub mod LimitExamples
 pub mod ProtocolExamples
 pub mod RuleExamples
 pub mod RuleSamples

@@ -11,6 +11,7 @@ ghost use Rattle.db_examples.specs.ElementExamples.{LoopsRun, ExtentsEnd, BitsAr
 ghost use Rattle.db_examples.specs.ValueExamples.{OperatorsGive, FormsGive, SpecialsGive, NamesMean, TypesFit};
 ghost use Rattle.db_examples.specs.ProtocolExamples.{ProtocolsBegin, PacketsBegin};
 ghost use Rattle.db_examples.specs.TableExamples.{TablesAnswer, UpdatesAsk, OneMaskOfTwo, LogsDiffer};
+ghost use Rattle.db_examples.specs.LimitExamples.{PacketLimits, FormLimits, DeclaredLimits, SizeLimits};
 ghost use Rattle.db_examples.specs.FaultExamples.{BitGroups, EntriesAreBounded, TimesOfUpdates, LeastLineFirst, FaultsAreFound, CirclesAreFound, BlocksNest, ChainsOfIncludes};
 
 pub use values::keyed_database;
@@ -243,4 +244,12 @@ pub fn blocks_nest()
 /// Chains of as many blocks as may be included in one another, and of one more.
 pub fn chains_of_includes()
     ensures { ChainsOfIncludes }
+{}
+
+/// Each limit, as a number.
+pub fn limits()
+    ensures packets { PacketLimits }
+    ensures forms { FormLimits }
+    ensures declared { DeclaredLimits }
+    ensures sizes { SizeLimits }
 {}
