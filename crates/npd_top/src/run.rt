@@ -1,6 +1,8 @@
 ghost use Rattle.std.specs.Prelude.{◌≡◌, ◌<◌, ◌≤◌, ◌^◌, length, map, string_bytes};
 ghost use Rattle.npd_host.specs.Host.{NoneFalls};
+ghost use Rattle.npd_top.specs.CaptureRun.{CaptureRuns};
 ghost use Rattle.npd_top.specs.CheckRun.{CheckSays, CheckOpens};
+ghost use Rattle.npd_top.specs.Decoder.{IsNew};
 ghost use Rattle.npd_top.specs.DecodeRun.{DecodeSays, DecodeOpens};
 ghost use Rattle.npd_top.specs.Outside.{seen};
 ghost use Rattle.npd_top.specs.Run.{HasCause, Means, WhereUntouched};
@@ -8,17 +10,46 @@ ghost use Rattle.npd_top.specs.Run.{HasCause, Means, WhereUntouched};
 use crate::capture::open_capture;
 use crate::job::{CheckFiles, DecodeFiles, Job, job_of};
 use crate::limits::MOST_DATABASE;
-use crate::load::{load, load_decoder};
+use crate::decoder::{Decoder, let_go_all};
+use crate::load::{load_decoder, load_totals};
 use crate::output::write_line;
 use crate::packets::write_named;
 use crate::status::{Part, Status};
-use crate::totals::{totals_line, totals_of};
+use crate::totals::totals_line;
 use npd_host::Host;
 use npd_words::{WordsFail, read_words};
 use pcap_in::laws::{fronts_tell, seen_is_read};
 use std::alloc::Global;
 
-/// Loads the database, opens the capture and the outputs, and writes the texts of one packet after another.
+/// Opens the capture and the outputs, and writes the texts of one packet after another.
+fn decode_capture<H: Host>(
+    alloc: Global,
+    host: &mut H,
+    files: &DecodeFiles,
+    decoder: &mut Decoder,
+) -> Status
+    requires { IsNew decoder.old }
+    ensures runs { CaptureRuns result files.now decoder.old.engine.db
+        (seen H.Host host.old) (seen H.Host host.new) }
+    ensures files { H.files host.new ≡ H.files host.old }
+    ensures later { NoneFalls (H.faults host.old) (H.faults host.new) }
+{
+    let reader = match open_capture(alloc, host, files.cap.as_str()) {
+        Ok(reader) => reader,
+        Err(status) => return status,
+    };
+    write_named(
+        alloc,
+        host,
+        reader,
+        &files.outputs,
+        &decoder.engine,
+        &mut decoder.session,
+        files.max,
+    )
+}
+
+/// Loads the database, and decodes the capture by it.
 fn run_decode<H: Host>(alloc: Global, host: &mut H, files: &DecodeFiles) -> Status
     requires some { 1 ≤ files.now.max }
     ensures opens { DecodeOpens result files.now (seen H.Host host.old) (seen H.Host host.new) }
@@ -35,19 +66,9 @@ fn run_decode<H: Host>(alloc: Global, host: &mut H, files: &DecodeFiles) -> Stat
         Ok(decoder) => decoder,
         Err(status) => return status,
     };
-    let reader = match open_capture(alloc, host, files.cap.as_str()) {
-        Ok(reader) => reader,
-        Err(status) => return status,
-    };
-    write_named(
-        alloc,
-        host,
-        reader,
-        &files.outputs,
-        &decoder.engine,
-        &mut decoder.session,
-        files.max,
-    )
+    let status = decode_capture(alloc, host, files, &mut decoder);
+    let_go_all(decoder);
+    status
 }
 
 /// Loads and checks the database, and writes how much it declares.
@@ -60,11 +81,11 @@ fn run_check<H: Host>(alloc: Global, host: &mut H, files: &CheckFiles) -> Status
     ensures later { NoneFalls (H.faults host.old) (H.faults host.new) }
 {
     // One byte more than a database has, so that a longer text is seen.
-    let db = match load(alloc, host, files.db.as_str(), MOST_DATABASE + 1) {
-        Ok(db) => db,
+    let totals = match load_totals(alloc, host, files.db.as_str(), MOST_DATABASE + 1) {
+        Ok(totals) => totals,
         Err(status) => return status,
     };
-    let line = match totals_line(alloc, &totals_of(db.database())) {
+    let line = match totals_line(alloc, &totals) {
         Ok(line) => line,
         Err(_) => return Status::NoMemory,
     };
