@@ -1,5 +1,5 @@
 -- What a decode's status says, by what the decoding of its capture came to behind the loading of its database.
-use Rattle.std.proofs.Common.{◌≡◌, ⊎_elim, ◌<◌, List, [], ◌∷◌, ◌++◌, ◌∙◌, ap, subst, IfSome, arith}
+use Rattle.std.proofs.Common.{◌≡◌, ⊎_elim, ◌<◌, [], ◌∷◌, ◌++◌, ◌∙◌, ap, subst, IfSome, arith}
 use Rattle.db_model.specs.declared.database.Database as model
 use Rattle.npd_host.specs.Host.{Outputs, NoneFalls}
 use Rattle.pcap_in.specs.Reader.{Reader}
@@ -28,7 +28,7 @@ module _ (status : Status) (files : DecodeFiles) (db : model.Database) (before m
       ⊎_elim
       (λ closed. opens_unopened Reader status files before after mid.inputs.opened mid.faults read closed.opened (ap (λ (o : Outputs). o.opened) (closed.outputs ∙ outputs)) closed.cause)
       (λ decoded. opens_decoded status files before after decoded.faults (two_more _ _ _ files.db files.cap read decoded.opened)
-          (subst (λ (o : Outputs). OpensNames status files.outputs o.opened after.outputs.opened) outputs decoded.names) decoded.cause) runs
+      (subst (λ (o : Outputs). OpensNames status files.outputs o.opened after.outputs.opened) outputs decoded.names) decoded.cause) runs
 
   pub says_captured : Rests → 0 < files.max → IfSome (before.files files.db) (λ text. IsAccepted text db) → KeepsIds before.inputs mid.inputs → mid.files ≡ before.files → DecodeSays status files before after
   says_captured rests some database keeps same =

@@ -72,12 +72,7 @@ fn accepted(alloc: Global, text: &[u8]) -> Result<CheckedDb, Status>
 
 /// Opens the database file, reads it, loads it and checks it. `most` is how many bytes are read at most: more than
 /// the text of a database has.
-fn load<H: Host>(
-    alloc: Global,
-    host: &mut H,
-    name: &str,
-    most: usize,
-) -> Result<CheckedDb, Status>
+fn load<H: Host>(alloc: Global, host: &mut H, name: &str, most: usize) -> Result<CheckedDb, Status>
     requires { MOST_TEXT_BYTES < most }
     ensures database { IfSome (H.files host.old name.now) (DatabaseIs result) }
     ensures opens { OpensOne name.now (H.inputs host.old).opened (H.inputs host.new).opened result }

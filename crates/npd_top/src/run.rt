@@ -5,12 +5,13 @@ ghost use Rattle.npd_top.specs.CheckRun.{CheckSays, CheckOpens};
 ghost use Rattle.npd_top.specs.Decoder.{IsNew};
 ghost use Rattle.npd_top.specs.DecodeRun.{DecodeSays, DecodeOpens};
 ghost use Rattle.npd_top.specs.Outside.{seen};
-ghost use Rattle.npd_top.specs.Run.{HasCause, Means, WhereUntouched};
+ghost use Rattle.npd_top.specs.Jobs.{ReadsSome};
+ghost use Rattle.npd_top.specs.Run.{HasCause, Means, Opens, Says, WhereUntouched};
 
 use crate::capture::open_capture;
+use crate::decoder::{Decoder, let_go_all};
 use crate::job::{CheckFiles, DecodeFiles, Job, job_of};
 use crate::limits::MOST_DATABASE;
-use crate::decoder::{Decoder, let_go_all};
 use crate::load::{load_decoder, load_totals};
 use crate::output::write_line;
 use crate::packets::write_named;
@@ -95,6 +96,21 @@ fn run_check<H: Host>(alloc: Global, host: &mut H, files: &CheckFiles) -> Status
     }
 }
 
+/// Does a job.
+fn run_job<H: Host>(alloc: Global, host: &mut H, job: &Job) -> Status
+    requires { ReadsSome job.now }
+    ensures opens { Opens result job.now (seen H.Host host.old) (seen H.Host host.new) }
+    ensures says { Says result job.now (seen H.Host host.old) (seen H.Host host.new) }
+    ensures cause { HasCause result job.now (seen H.Host host.old) (seen H.Host host.new) }
+    ensures files { H.files host.new ≡ H.files host.old }
+    ensures later { NoneFalls (H.faults host.old) (H.faults host.new) }
+{
+    match job {
+        Job::Decode(files) => run_decode(alloc, host, files),
+        Job::Check(files) => run_check(alloc, host, files),
+    }
+}
+
 /// Serves command words on a host. It always returns.
 ///
 /// `decode --db D --cap C` reads the database file D and the capture C, and decodes the packets one by one, in order, at
@@ -120,8 +136,7 @@ pub fn run_serial<H: Host>(alloc: Global, words: &[String], host: &mut H) -> Sta
         Err(WordsFail::NoMemory) => return Status::NoMemory,
     };
     match job_of(plan) {
-        Some(Job::Decode(files)) => run_decode(alloc, host, &files),
-        Some(Job::Check(files)) => run_check(alloc, host, &files),
+        Some(job) => run_job(alloc, host, &job),
         None => Status::Unbuilt { part: Part::Words },
     }
 }

@@ -1,5 +1,4 @@
-use Rattle.std.proofs.Common.{inr, ap, ◌∙◌, List, ℕ}
-use Rattle.npd_host.specs.Host.{Inputs}
+use Rattle.std.proofs.Common.{inr, ◌∙◌}
 use Rattle.npd_top.proofs.run.decode_capture.Goals as goal
 
 pub returns-clause-runs : goal.returns-clause-runs
