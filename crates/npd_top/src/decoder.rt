@@ -189,12 +189,3 @@ pub fn decoder_of(db: CheckedDb, parts: Parts) -> Decoder
         session,
     }
 }
-
-/// Drops a database. It has a function of its own, as each way out of a function that still has a database takes all of
-/// its parts apart.
-pub fn let_go(_db: CheckedDb) {}
-
-/// Drops a decoder.
-pub fn let_go_all(decoder: Decoder) {
-    let_go(decoder.engine.db);
-}

@@ -6,7 +6,7 @@ ghost use Rattle.npd_top.specs.Decoder.{IsNew};
 ghost use Rattle.npd_top.specs.Loaded.{DatabaseIs, DecoderIs, TotalsAre};
 ghost use Rattle.npd_top.specs.Outside.{OpensOne, KeepsIds, FrontOf};
 
-use crate::decoder::{Decoder, decoder_of, let_go, parts_of};
+use crate::decoder::{Decoder, decoder_of, parts_of};
 use crate::status::{Role, Status, refused};
 use crate::totals::{Totals, totals_of};
 use db_check::check;
@@ -106,7 +106,7 @@ pub fn load_decoder<H: Host>(
     match parts_of(alloc, &db) {
         Ok(parts) => Ok(decoder_of(db, parts)),
         Err(_) => {
-            let_go(db);
+            drop(db);
             Err(Status::NoMemory)
         }
     }
@@ -130,6 +130,6 @@ pub fn load_totals<H: Host>(
         Err(status) => return Err(status),
     };
     let totals = totals_of(db.database());
-    let_go(db);
+    drop(db);
     Ok(totals)
 }

@@ -9,7 +9,7 @@ ghost use Rattle.npd_top.specs.Jobs.{ReadsSome};
 ghost use Rattle.npd_top.specs.Run.{HasCause, Means, Opens, Says, WhereUntouched};
 
 use crate::capture::open_capture;
-use crate::decoder::{Decoder, let_go_all};
+use crate::decoder::Decoder;
 use crate::job::{CheckFiles, DecodeFiles, Job, job_of};
 use crate::limits::MOST_DATABASE;
 use crate::load::{load_decoder, load_totals};
@@ -68,7 +68,7 @@ fn run_decode<H: Host>(alloc: Global, host: &mut H, files: &DecodeFiles) -> Stat
         Err(status) => return status,
     };
     let status = decode_capture(alloc, host, files, &mut decoder);
-    let_go_all(decoder);
+    drop(decoder);
     status
 }
 
