@@ -8,9 +8,10 @@ use Rattle.npd_top.specs.declared.job.CheckFiles.{CheckFiles}
 use Rattle.npd_top.specs.declared.status.Role.TheVariants.{Db, Cap, Pdml, Psml, Trace, Out}
 use Rattle.npd_top.specs.declared.status.Status.{Status}
 use Rattle.npd_top.specs.declared.status.Status.TheVariants.{Done, Words, Open, Read, Write, Database, Capture, PacketLimit, NoMemory, Unbuilt}
+use Rattle.npd_top.specs.declared.totals.Totals.{Totals}
 use Rattle.npd_top.specs.Accepted.{HasAccepted}
 use Rattle.npd_top.specs.CheckRun.{FindsAccepted, CheckSays, CheckOpens, totals_of, totals_line, standard}
-use Rattle.npd_top.specs.Loaded.{DatabaseIs}
+use Rattle.npd_top.specs.Loaded.{DatabaseIs, TotalsAre}
 use Rattle.npd_top.specs.Outside.{Outside, OpensOne, FrontOf}
 use Rattle.npd_top.specs.Written.{WroteFront, WroteProper, WritesLine}
 
@@ -54,37 +55,42 @@ whole-is result most front None enough parts is = tt
 whole-is result most front (Some whole) enough parts is =
     whole-by (ltb (length front) most) result most front whole refl enough parts is
 
-accepted_of : (file : Option (List ℕ)) (db : model.Database) (P : List ℕ → Type 0) → IfSome file (DatabaseIs (Ok db)) → P (totals_line (totals_of db)) → IfSome file (λ text. (found : HasAccepted text) × P (totals_line (totals_of found.db)))
-accepted_of None db P is p = tt
-accepted_of (Some text) db P is p = (record { db = db; is = is }, p)
+-- the database was counted
+pub counted : (file : Option (List ℕ)) (db : model.Database) (totals : Totals) → totals ≡ totals_of db → IfSome file (DatabaseIs (Ok db)) → IfSome file (TotalsAre (Ok totals))
+counted None db totals same is = tt
+counted (Some text) db totals same is = (record { db = db; is = is }, same)
+
+accepted_of : (file : Option (List ℕ)) (totals : Totals) (P : List ℕ → Type 0) → IfSome file (TotalsAre (Ok totals)) → P (totals_line totals) → IfSome file (λ text. (found : HasAccepted text) × P (totals_line (totals_of found.db)))
+accepted_of None totals P is p = tt
+accepted_of (Some text) totals P is p = (is.0, rw is.1 at p)
 
 -- an accepted database was found, and this holds of its line
-pub finds_accepted : (files : CheckFiles) (before : Outside) (db : model.Database) (P : List ℕ → Type 0) → IfSome (before.files files.db) (DatabaseIs (Ok db)) → P (totals_line (totals_of db)) → FindsAccepted files before P
-finds_accepted files before db P is p = accepted_of (before.files files.db) db P is p
+pub finds_accepted : (files : CheckFiles) (before : Outside) (totals : Totals) (P : List ℕ → Type 0) → IfSome (before.files files.db) (TotalsAre (Ok totals)) → P (totals_line totals) → FindsAccepted files before P
+finds_accepted files before totals P is p = accepted_of (before.files files.db) totals P is p
 
 -- its line was written, or given up with this status
-pub says_line : (status : Status) (files : CheckFiles) (before after : Outside) (db : model.Database) → IfSome (before.files files.db) (DatabaseIs (Ok db)) → WritesLine {A = Unit {0}} (Err status) before.outputs after.outputs standard (totals_line (totals_of db)) → CheckSays status files before after
-says_line Done files before after db is w = absurd w
-says_line (Open Db) files before after db is w = absurd w
-says_line (Open Cap) files before after db is w = absurd w
-says_line (Words index code) files before after db is w = absurd w
-says_line (PacketLimit max) files before after db is w = absurd w
-says_line (Open Pdml) files before after db is w = absurd w
-says_line (Open Psml) files before after db is w = absurd w
-says_line (Open Trace) files before after db is w = absurd w
-says_line (Open Out) files before after db is w = (w, finds_accepted files before db (λ line. Unit {0}) is tt)
-says_line (Read role) files before after db is w = absurd w
-says_line (Write Db) files before after db is w = absurd w
-says_line (Write Cap) files before after db is w = absurd w
-says_line (Write Pdml) files before after db is w = absurd w
-says_line (Write Psml) files before after db is w = absurd w
-says_line (Write Trace) files before after db is w = absurd w
-says_line (Write Out) files before after db is w = finds_accepted files before db (WroteProper before.outputs after.outputs standard) is w
-says_line (Database line code) files before after db is w = absurd w
-says_line (Capture offset code) files before after db is w = absurd w
-says_line NoMemory files before after db is w =
-    ⊎_elim (λ same. inl same) (λ front. inr (finds_accepted files before db (WroteFront before.outputs after.outputs standard) is front)) w
-says_line (Unbuilt which) files before after db is w = absurd w
+pub says_line : (status : Status) (files : CheckFiles) (before after : Outside) (totals : Totals) → IfSome (before.files files.db) (TotalsAre (Ok totals)) → WritesLine {A = Unit {0}} (Err status) before.outputs after.outputs standard (totals_line totals) → CheckSays status files before after
+says_line Done files before after totals is w = absurd w
+says_line (Open Db) files before after totals is w = absurd w
+says_line (Open Cap) files before after totals is w = absurd w
+says_line (Words index code) files before after totals is w = absurd w
+says_line (PacketLimit max) files before after totals is w = absurd w
+says_line (Open Pdml) files before after totals is w = absurd w
+says_line (Open Psml) files before after totals is w = absurd w
+says_line (Open Trace) files before after totals is w = absurd w
+says_line (Open Out) files before after totals is w = (w, finds_accepted files before totals (λ line. Unit {0}) is tt)
+says_line (Read role) files before after totals is w = absurd w
+says_line (Write Db) files before after totals is w = absurd w
+says_line (Write Cap) files before after totals is w = absurd w
+says_line (Write Pdml) files before after totals is w = absurd w
+says_line (Write Psml) files before after totals is w = absurd w
+says_line (Write Trace) files before after totals is w = absurd w
+says_line (Write Out) files before after totals is w = finds_accepted files before totals (WroteProper before.outputs after.outputs standard) is w
+says_line (Database line code) files before after totals is w = absurd w
+says_line (Capture offset code) files before after totals is w = absurd w
+says_line NoMemory files before after totals is w =
+    ⊎_elim (λ same. inl same) (λ front. inr (finds_accepted files before totals (WroteFront before.outputs after.outputs standard) is front)) w
+says_line (Unbuilt which) files before after totals is w = absurd w
 
 -- which files were opened where the writing of the line gave up
 pub opens_line : (status : Status) (files : CheckFiles) (before after : Outside) (began : List (List ℕ)) (line : List ℕ) → began ≡ before.outputs.opened → WritesLine {A = Unit {0}} (Err status) before.outputs after.outputs standard line

@@ -1,4 +1,5 @@
 pub mod Begun
+pub mod Captures
 pub mod Causes
 pub mod Checks
 pub mod Complete

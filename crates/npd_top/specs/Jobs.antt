@@ -1,5 +1,5 @@
 -- What the command words ask of the program, as far as it is built.
-use Rattle.std.specs.Prelude.{◌≡◌, ℕ, List, Option, Some, None, Ok, Err}
+use Rattle.std.specs.Prelude.{◌≡◌, ◌≤◌, ℕ, List, Option, Some, None, Ok, Err}
 use Rattle.npd_words.specs.declared.plan.Plan.{Plan}
 use Rattle.npd_words.specs.declared.plan.Plan.TheVariants as plan
 use Rattle.npd_words.specs.Asked.{asked, fault}
@@ -17,6 +17,11 @@ job_of (plan.Decode db cap pdml psml trace None workers window max) =
 job_of (plan.Decode db cap pdml psml trace (Some report) workers window max) = None
 job_of (plan.Check db) = Some (Check (record { db = db }))
 job_of (plan.Gen seed packets workers window) = None
+
+-- at least one packet may be read
+abbrev pub ReadsSome : Job → Type 0
+ReadsSome (Decode files) = 1 ≤ files.max
+ReadsSome (Check files) = Unit {0}
 
 -- these words ask for this job
 pub record Asks (words : List (List ℕ)) (job : Job) : Type 0 where

@@ -1,5 +1,6 @@
 pub mod Accepted
 pub mod CaptureRead
+pub mod CaptureRun
 pub mod Causes
 pub mod CheckRun
 pub mod DecodeRun

@@ -1,5 +1,7 @@
-ghost use Rattle.std.specs.Prelude.{◌≡◌};
+ghost use Rattle.std.specs.Prelude.{◌≡◌, IfSome};
+ghost use Rattle.npd_words.specs.Ranges.{IsInRange};
 ghost use Rattle.npd_top.specs.Jobs;
+ghost use Rattle.npd_top.specs.Jobs.{ReadsSome};
 
 use db_model::Word;
 use npd_words::Plan;
@@ -38,7 +40,9 @@ pub enum Job {
 
 /// The job that a plan is. None: it names a report, or asks for a capture to be made.
 pub fn job_of(plan: Plan) -> Option<Job>
-    ensures { result ≡ Jobs.job_of plan }
+    requires { IsInRange plan }
+    ensures job { result ≡ Jobs.job_of plan }
+    ensures some { IfSome result ReadsSome }
 {
     match plan {
         Plan::Decode {

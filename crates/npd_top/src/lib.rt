@@ -7,6 +7,7 @@ mod decoder;
 mod job;
 mod laws;
 mod limits;
+mod line;
 mod load;
 mod output;
 mod packets;

@@ -3,11 +3,12 @@ ghost use Rattle.db_text.specs.declared.limits.TheConstants.{MOST_TEXT_BYTES};
 ghost use Rattle.npd_host.specs.Host.{MovesInputsOnly};
 ghost use Rattle.npd_top.specs.Causes.{fault_status, IsFault, HasTextCause, HasDatabaseCause};
 ghost use Rattle.npd_top.specs.Decoder.{IsNew};
-ghost use Rattle.npd_top.specs.Loaded.{DatabaseIs, DecoderIs};
+ghost use Rattle.npd_top.specs.Loaded.{DatabaseIs, DecoderIs, TotalsAre};
 ghost use Rattle.npd_top.specs.Outside.{OpensOne, KeepsIds, FrontOf};
 
 use crate::decoder::{Decoder, decoder_of, parts_of};
 use crate::status::{Role, Status, refused};
+use crate::totals::{Totals, totals_of};
 use db_check::check;
 use db_load::load_database;
 use db_model::{CheckedDb, DbFail};
@@ -71,12 +72,7 @@ fn accepted(alloc: Global, text: &[u8]) -> Result<CheckedDb, Status>
 
 /// Opens the database file, reads it, loads it and checks it. `most` is how many bytes are read at most: more than
 /// the text of a database has.
-pub fn load<H: Host>(
-    alloc: Global,
-    host: &mut H,
-    name: &str,
-    most: usize,
-) -> Result<CheckedDb, Status>
+fn load<H: Host>(alloc: Global, host: &mut H, name: &str, most: usize) -> Result<CheckedDb, Status>
     requires { MOST_TEXT_BYTES < most }
     ensures database { IfSome (H.files host.old name.now) (DatabaseIs result) }
     ensures opens { OpensOne name.now (H.inputs host.old).opened (H.inputs host.new).opened result }
@@ -88,7 +84,7 @@ pub fn load<H: Host>(
     accepted(alloc, text.as_slice())
 }
 
-/// The same, and makes what decodes by the database.
+/// The same as `load`, and makes what decodes by the database.
 pub fn load_decoder<H: Host>(
     alloc: Global,
     host: &mut H,
@@ -103,9 +99,37 @@ pub fn load_decoder<H: Host>(
     ensures frame { MovesInputsOnly H.outputs H.files H.faults host.old host.new }
     ensures cause { IfErr result (HasDatabaseCause name.now (H.faults host.old) (H.faults host.new)) }
 {
-    let db = load(alloc, host, name, most)?;
+    let db = match load(alloc, host, name, most) {
+        Ok(db) => db,
+        Err(status) => return Err(status),
+    };
     match parts_of(alloc, &db) {
         Ok(parts) => Ok(decoder_of(db, parts)),
-        Err(_) => Err(Status::NoMemory),
+        Err(_) => {
+            drop(db);
+            Err(Status::NoMemory)
+        }
     }
+}
+
+/// The same as `load`, and counts what the database declares.
+pub fn load_totals<H: Host>(
+    alloc: Global,
+    host: &mut H,
+    name: &str,
+    most: usize,
+) -> Result<Totals, Status>
+    requires { MOST_TEXT_BYTES < most }
+    ensures database { IfSome (H.files host.old name.now) (TotalsAre result) }
+    ensures opens { OpensOne name.now (H.inputs host.old).opened (H.inputs host.new).opened result }
+    ensures frame { MovesInputsOnly H.outputs H.files H.faults host.old host.new }
+    ensures cause { IfErr result (HasDatabaseCause name.now (H.faults host.old) (H.faults host.new)) }
+{
+    let db = match load(alloc, host, name, most) {
+        Ok(db) => db,
+        Err(status) => return Err(status),
+    };
+    let totals = totals_of(db.database());
+    drop(db);
+    Ok(totals)
 }

@@ -1,24 +1,56 @@
 ghost use Rattle.std.specs.Prelude.{◌≡◌, ◌<◌, ◌≤◌, ◌^◌, length, map, string_bytes};
 ghost use Rattle.npd_host.specs.Host.{NoneFalls};
+ghost use Rattle.npd_top.specs.CaptureRun.{CaptureRuns};
 ghost use Rattle.npd_top.specs.CheckRun.{CheckSays, CheckOpens};
+ghost use Rattle.npd_top.specs.Decoder.{IsNew};
 ghost use Rattle.npd_top.specs.DecodeRun.{DecodeSays, DecodeOpens};
 ghost use Rattle.npd_top.specs.Outside.{seen};
-ghost use Rattle.npd_top.specs.Run.{HasCause, Means, WhereUntouched};
+ghost use Rattle.npd_top.specs.Jobs.{ReadsSome};
+ghost use Rattle.npd_top.specs.Run.{HasCause, Means, Opens, Says, WhereUntouched};
 
 use crate::capture::open_capture;
+use crate::decoder::Decoder;
 use crate::job::{CheckFiles, DecodeFiles, Job, job_of};
 use crate::limits::MOST_DATABASE;
-use crate::load::{load, load_decoder};
+use crate::load::{load_decoder, load_totals};
 use crate::output::write_line;
 use crate::packets::write_named;
 use crate::status::{Part, Status};
-use crate::totals::{totals_line, totals_of};
+use crate::totals::totals_line;
 use npd_host::Host;
 use npd_words::{WordsFail, read_words};
 use pcap_in::laws::{fronts_tell, seen_is_read};
 use std::alloc::Global;
 
-/// Loads the database, opens the capture and the outputs, and writes the texts of one packet after another.
+/// Opens the capture and the outputs, and writes the texts of one packet after another.
+fn decode_capture<H: Host>(
+    alloc: Global,
+    host: &mut H,
+    files: &DecodeFiles,
+    decoder: &mut Decoder,
+) -> Status
+    requires { IsNew decoder.old }
+    ensures runs { CaptureRuns result files.now decoder.old.engine.db
+        (seen H.Host host.old) (seen H.Host host.new) }
+    ensures files { H.files host.new ≡ H.files host.old }
+    ensures later { NoneFalls (H.faults host.old) (H.faults host.new) }
+{
+    let reader = match open_capture(alloc, host, files.cap.as_str()) {
+        Ok(reader) => reader,
+        Err(status) => return status,
+    };
+    write_named(
+        alloc,
+        host,
+        reader,
+        &files.outputs,
+        &decoder.engine,
+        &mut decoder.session,
+        files.max,
+    )
+}
+
+/// Loads the database, and decodes the capture by it.
 fn run_decode<H: Host>(alloc: Global, host: &mut H, files: &DecodeFiles) -> Status
     requires some { 1 ≤ files.now.max }
     ensures opens { DecodeOpens result files.now (seen H.Host host.old) (seen H.Host host.new) }
@@ -35,19 +67,9 @@ fn run_decode<H: Host>(alloc: Global, host: &mut H, files: &DecodeFiles) -> Stat
         Ok(decoder) => decoder,
         Err(status) => return status,
     };
-    let reader = match open_capture(alloc, host, files.cap.as_str()) {
-        Ok(reader) => reader,
-        Err(status) => return status,
-    };
-    write_named(
-        alloc,
-        host,
-        reader,
-        &files.outputs,
-        &decoder.engine,
-        &mut decoder.session,
-        files.max,
-    )
+    let status = decode_capture(alloc, host, files, &mut decoder);
+    drop(decoder);
+    status
 }
 
 /// Loads and checks the database, and writes how much it declares.
@@ -60,17 +82,32 @@ fn run_check<H: Host>(alloc: Global, host: &mut H, files: &CheckFiles) -> Status
     ensures later { NoneFalls (H.faults host.old) (H.faults host.new) }
 {
     // One byte more than a database has, so that a longer text is seen.
-    let db = match load(alloc, host, files.db.as_str(), MOST_DATABASE + 1) {
-        Ok(db) => db,
+    let totals = match load_totals(alloc, host, files.db.as_str(), MOST_DATABASE + 1) {
+        Ok(totals) => totals,
         Err(status) => return status,
     };
-    let line = match totals_line(alloc, &totals_of(db.database())) {
+    let line = match totals_line(alloc, &totals) {
         Ok(line) => line,
         Err(_) => return Status::NoMemory,
     };
     match write_line(host, line.as_slice()) {
         Ok(()) => Status::Done,
         Err(status) => status,
+    }
+}
+
+/// Does a job.
+fn run_job<H: Host>(alloc: Global, host: &mut H, job: &Job) -> Status
+    requires { ReadsSome job.now }
+    ensures opens { Opens result job.now (seen H.Host host.old) (seen H.Host host.new) }
+    ensures says { Says result job.now (seen H.Host host.old) (seen H.Host host.new) }
+    ensures cause { HasCause result job.now (seen H.Host host.old) (seen H.Host host.new) }
+    ensures files { H.files host.new ≡ H.files host.old }
+    ensures later { NoneFalls (H.faults host.old) (H.faults host.new) }
+{
+    match job {
+        Job::Decode(files) => run_decode(alloc, host, files),
+        Job::Check(files) => run_check(alloc, host, files),
     }
 }
 
@@ -99,8 +136,7 @@ pub fn run_serial<H: Host>(alloc: Global, words: &[String], host: &mut H) -> Sta
         Err(WordsFail::NoMemory) => return Status::NoMemory,
     };
     match job_of(plan) {
-        Some(Job::Decode(files)) => run_decode(alloc, host, &files),
-        Some(Job::Check(files)) => run_check(alloc, host, &files),
+        Some(job) => run_job(alloc, host, &job),
         None => Status::Unbuilt { part: Part::Words },
     }
 }

@@ -1,9 +1,9 @@
-ghost use Rattle.std.specs.Prelude.{◌≡◌, ◌++◌, ◌∷◌, [], codes, decimal, IfOk};
+ghost use Rattle.std.specs.Prelude.{◌≡◌, ◌++◌, ◌∷◌, [], codes, decimal, IfOk, OnOk};
 ghost use Rattle.npd_top.specs.Causes.{refusal};
 ghost use Rattle.npd_top.specs.Status.{exit_of, line_of, usage_line, role_word, part_word};
 
+use crate::line::{push, push_number};
 use db_model::{Bytes64, NoMemory};
-use itoa::Buffer;
 use npd_host::HostFail;
 use std::alloc::{AllocError, Global};
 
@@ -126,68 +126,71 @@ impl Status {
     pub fn line(&self, alloc: Global) -> Result<Bytes64, NoMemory>
         ensures { IfOk result (λ text. text ≡ line_of self.now) }
     {
-        let line = match self {
-            Status::Done => Vec::new(alloc),
-            Status::Words { index, code } => usage(alloc, u64::from(*index), *code)?,
-            Status::Open { role } => line(alloc, "open ", role.word())?,
-            Status::Read { role } => line(alloc, "read ", role.word())?,
-            Status::Write { role } => line(alloc, "write ", role.word())?,
+        let mut text = Vec::new(alloc);
+        self.push_line(&mut text)?;
+        Ok(Bytes64::from_vec(text))
+    }
+
+    /// Adds that text.
+    fn push_line(&self, text: &mut Vec<u8>) -> Result<(), NoMemory>
+        ensures { OnOk result (text.new.items ≡ text.old.items ++ line_of self.now) }
+    {
+        match self {
+            Status::Done => Ok(()),
+            Status::Words { index, code } => push_usage(text, u64::from(*index), *code),
+            Status::Open { role } => push_words(text, "open ", role.word()),
+            Status::Read { role } => push_words(text, "read ", role.word()),
+            Status::Write { role } => push_words(text, "write ", role.word()),
             Status::Database { line, code } => {
-                fault_line(alloc, "database ", u64::from(*line), *code)?
+                push_fault(text, "database ", u64::from(*line), *code)
             }
-            Status::Capture { offset, code } => fault_line(alloc, "capture ", *offset, *code)?,
-            Status::PacketLimit { max } => limit_line(alloc, *max)?,
-            Status::NoMemory => line(alloc, "no memory", "")?,
-            Status::Unbuilt { part } => line(alloc, "unbuilt ", part.word())?,
-        };
-        Ok(Bytes64::from_vec(line))
+            Status::Capture { offset, code } => push_fault(text, "capture ", *offset, *code),
+            Status::PacketLimit { max } => push_limit(text, *max),
+            Status::NoMemory => push_words(text, "no memory", ""),
+            Status::Unbuilt { part } => push_words(text, "unbuilt ", part.word()),
+        }
     }
 }
 
-/// `npd: `, which input is at fault, where and with which code, and LF.
-fn fault_line(alloc: Global, which: &str, place: u64, code: u8) -> Result<Vec<u8>, AllocError>
-    ensures { IfOk result (λ text. text.items
-        ≡ codes "npd: " ++ (which.now ++ (decimal place ++ (codes " " ++ decimal code)))
-        ++ 10 ∷ []) }
+/// Adds `npd: `, which input is at fault, where and with which code, and LF.
+fn push_fault(text: &mut Vec<u8>, which: &str, place: u64, code: u8) -> Result<(), NoMemory>
+    ensures { OnOk result (text.new.items ≡ text.old.items
+        ++ (codes "npd: " ++ (which.now ++ (decimal place ++ (codes " " ++ decimal code)))
+        ++ 10 ∷ [])) }
 {
-    let mut buffer = Buffer::new();
-    let mut text = Vec::from_slice(alloc, b"npd: ")?;
-    text.extend_from_slice(which.as_bytes())?;
-    text.extend_from_slice(buffer.format(place).as_bytes())?;
-    text.extend_from_slice(b" ")?;
-    text.extend_from_slice(buffer.format(code).as_bytes())?;
-    text.push(b'\n')?;
-    Ok(text)
+    push(text, b"npd: ")?;
+    push_number(text, which, place)?;
+    push_number(text, " ", u64::from(code))?;
+    push(text, b"\n")
 }
 
-/// `npd: `, what happened and to which file or part, and LF.
-fn line(alloc: Global, what: &str, which: &str) -> Result<Vec<u8>, AllocError>
-    ensures { IfOk result (λ text.
-        text.items ≡ codes "npd: " ++ (what.now ++ which.now) ++ 10 ∷ []) }
+/// Adds `npd: `, what happened and to which file or part, and LF.
+fn push_words(text: &mut Vec<u8>, what: &str, which: &str) -> Result<(), NoMemory>
+    ensures { OnOk result (text.new.items ≡ text.old.items
+        ++ (codes "npd: " ++ (what.now ++ which.now) ++ 10 ∷ [])) }
 {
-    let mut text = Vec::from_slice(alloc, b"npd: ")?;
-    text.extend_from_slice(what.as_bytes())?;
-    text.extend_from_slice(which.as_bytes())?;
-    text.push(b'\n')?;
-    Ok(text)
+    push(text, b"npd: ")?;
+    push(text, what.as_bytes())?;
+    push(text, which.as_bytes())?;
+    push(text, b"\n")
 }
 
-/// The line of a limit of packets.
-fn limit_line(alloc: Global, max: u32) -> Result<Vec<u8>, AllocError>
-    ensures { IfOk result (λ text. text.items
-        ≡ codes "npd: " ++ (codes "packet limit " ++ decimal max) ++ 10 ∷ []) }
+/// Adds the line of a limit of packets.
+fn push_limit(text: &mut Vec<u8>, max: u32) -> Result<(), NoMemory>
+    ensures { OnOk result (text.new.items ≡ text.old.items
+        ++ (codes "npd: " ++ (codes "packet limit " ++ decimal max) ++ 10 ∷ [])) }
 {
-    let mut buffer = Buffer::new();
-    line(alloc, "packet limit ", buffer.format(max))
+    push(text, b"npd: ")?;
+    push_number(text, "packet limit ", u64::from(max))?;
+    push(text, b"\n")
 }
 
-/// The line of a fault of the words, and the line on how the program is called.
-fn usage(alloc: Global, index: u64, code: u8) -> Result<Vec<u8>, AllocError>
-    ensures { IfOk result (λ text. text.items
-        ≡ (codes "npd: " ++ (codes "words " ++ (decimal index ++ (codes " " ++ decimal code)))
-        ++ 10 ∷ []) ++ usage_line) }
+/// Adds the line of a fault of the words, and the line on how the program is called.
+fn push_usage(text: &mut Vec<u8>, index: u64, code: u8) -> Result<(), NoMemory>
+    ensures { OnOk result (text.new.items ≡ text.old.items
+        ++ ((codes "npd: " ++ (codes "words " ++ (decimal index ++ (codes " " ++ decimal code)))
+        ++ 10 ∷ []) ++ usage_line)) }
 {
-    let mut text = fault_line(alloc, "words ", index, code)?;
-    text.extend_from_slice(b"usage: npd decode|check|gen --option value ..\n")?;
-    Ok(text)
+    push_fault(text, "words ", index, code)?;
+    push(text, b"usage: npd decode|check|gen --option value ..\n")
 }

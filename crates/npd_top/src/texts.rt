@@ -2,9 +2,9 @@ ghost use Rattle.std.specs.Prelude.{◌≡◌, ◌++◌, [], IfOk, IfSome, OnOk}
 ghost use Rattle.npd_top.specs.Taken.{bytes_of};
 ghost use Rattle.npd_top.specs.Trace;
 
+use crate::line::{push, push_number};
 use crate::status::Role;
 use db_model::NoMemory;
-use itoa::Buffer;
 use npd_host::OutId;
 use std::alloc::Global;
 
@@ -56,10 +56,8 @@ pub fn put(text: &mut Vec<u8>, sink: Option<OutId>, bytes: &[u8]) -> Result<(), 
 fn push_trace_line(text: &mut Vec<u8>, number: u64) -> Result<(), NoMemory>
     ensures { OnOk result (text.new.items ≡ text.old.items ++ Trace.trace_line number) }
 {
-    let mut buffer = Buffer::new();
-    text.extend_from_slice(buffer.format(number).as_bytes())?;
-    text.extend_from_slice(b" - - direct\n")?;
-    Ok(())
+    push_number(text, "", number)?;
+    push(text, b" - - direct\n")
 }
 
 /// Puts the line of a packet into the buffer of the trace, where that is named.

@@ -12,8 +12,8 @@ returns-in-Ok-write_line-clause-says g c =
     let before = seen g.H.Host c.args.host.now in
     let after = seen g.H.Host c.write_line.new.host in
     let database = rw c.as_str.ensures at c.in-Ok.ensures.database in
-    let written = rw (c.as_slice.ensures.value, c.in-Ok-totals_line.ensures, c.totals_of.ensures, c.database.ensures.database, c.in-Ok.ensures.frame.outputs) at c.in-Ok-write_line.ensures.writes in
-    finds_accepted files before c.in-Ok.db (Wrote before.outputs after.outputs standard) database written
+    let written = rw (c.as_slice.ensures.value, c.in-Ok-totals_line.ensures, c.in-Ok.ensures.frame.outputs) at c.in-Ok-write_line.ensures.writes in
+    finds_accepted files before c.in-Ok.totals (Wrote before.outputs after.outputs standard) database written
 
 pub returns-clause-says : goal.returns-clause-says
 returns-clause-says g c =
@@ -21,8 +21,8 @@ returns-clause-says g c =
     let before = seen g.H.Host c.args.host.now in
     let after = seen g.H.Host c.write_line.new.host in
     let database = rw c.as_str.ensures at c.in-Ok.ensures.database in
-    let written = rw (c.as_slice.ensures.value, c.in-Ok-totals_line.ensures, c.totals_of.ensures, c.database.ensures.database, c.in-Ok.ensures.frame.outputs) at c.in-Err-write_line.ensures.writes in
-    says_line c.in-Err-write_line.status files before after c.in-Ok.db database written
+    let written = rw (c.as_slice.ensures.value, c.in-Ok-totals_line.ensures, c.in-Ok.ensures.frame.outputs) at c.in-Err-write_line.ensures.writes in
+    says_line c.in-Err-write_line.status files before after c.in-Ok.totals database written
 
 pub returns-clause-opens : goal.returns-clause-opens
 returns-clause-opens g c =
