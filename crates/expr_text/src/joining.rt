@@ -14,9 +14,9 @@ use std::alloc::Global;
 pub fn both(alloc: Global, a: Expr, b: Expr) -> Result<(Boxed<Expr>, Boxed<Expr>), NoMemory>
     ensures { IfOk result (λ parts. (parts.0 ≡ a) × (parts.1 ≡ b)) }
 {
-    let a = Boxed::new(alloc, a)?;
+    let a = Boxed::new(alloc, a);
     let b = Boxed::new(alloc, b)?;
-    Ok((a, b))
+    Ok((a?, b))
 }
 
 /// What an operator makes of its two operands.
@@ -43,7 +43,10 @@ fn operated(
     let mut before = before;
     match before.pop() {
         Some(left) if before.is_empty() => joined_by(alloc, operator, left, e),
-        _ => Ok(e),
+        other => {
+            drop(other);
+            Ok(e)
+        }
     }
 }
 

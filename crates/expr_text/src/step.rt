@@ -84,6 +84,7 @@ fn operator(
     if frames.wanted() <= operator.level() {
         opened_behind(alloc, frames, Begun::Operand(operator), left)
     } else {
+        drop(left);
         Ok(None)
     }
 }
@@ -94,7 +95,10 @@ fn close_call(alloc: Global, call: Call, e: Expr) -> Result<Option<Mode>, NoMemo
     match call {
         Call::ToNumber => Ok(Some(Mode::Behind(Next::Any, Expr::ToNumber(Boxed::new(alloc, e)?)))),
         Call::LengthOf => Ok(Some(Mode::Behind(Next::Any, Expr::LengthOf(Boxed::new(alloc, e)?)))),
-        Call::ToBytes | Call::HasText => Ok(None),
+        Call::ToBytes | Call::HasText => {
+            drop(e);
+            Ok(None)
+        }
     }
 }
 
@@ -114,7 +118,10 @@ fn close_in(
             keys.push(e)?;
             Ok(Some(Mode::Behind(Next::Any, Expr::LookUp { table, renew, keys })))
         }
-        Begun::Operand(_) | Begun::Negated | Begun::Start | Begun::Length => Ok(None),
+        Begun::Operand(_) | Begun::Negated | Begun::Start | Begun::Length => {
+            drop(e);
+            Ok(None)
+        }
     }
 }
 
@@ -123,7 +130,10 @@ fn close(alloc: Global, e: Expr, frames: &mut Frames) -> Result<Option<Mode>, No
     ensures { IfOk result (λ mode. now mode frames.new ≡ Machine.close e frames.old) }
 {
     match frames.pop() {
-        None => Ok(None),
+        None => {
+            drop(e);
+            Ok(None)
+        }
         Some(frame) => close_in(alloc, frame.kind, frame.parts, e),
     }
 }
@@ -132,7 +142,10 @@ fn comma_in_call(call: Call, e: Expr) -> Option<Mode>
     ensures { (k : Machine.Stack) → now result k ≡ Machine.comma_in_call call e k }
 {
     match call {
-        Call::ToNumber | Call::LengthOf => None,
+        Call::ToNumber | Call::LengthOf => {
+            drop(e);
+            None
+        }
         Call::ToBytes => Some(Mode::Behind(Next::Size, e)),
         Call::HasText => Some(Mode::Behind(Next::Searched, e)),
     }
@@ -153,8 +166,10 @@ fn comma_in(
             keys.push(e)?;
             opened(frames, Begun::Key { table, renew }, keys)
         }
-        Begun::Operand(_) | Begun::Negated | Begun::Parenthesis | Begun::Start | Begun::Length =>
-            Ok(None),
+        Begun::Operand(_) | Begun::Negated | Begun::Parenthesis | Begun::Start | Begun::Length => {
+            drop(e);
+            Ok(None)
+        }
     }
 }
 
@@ -163,7 +178,10 @@ fn comma(e: Expr, frames: &mut Frames) -> Result<Option<Mode>, NoMemory>
     ensures { IfOk result (λ mode. now mode frames.new ≡ Machine.comma e frames.old) }
 {
     match frames.pop() {
-        None => Ok(None),
+        None => {
+            drop(e);
+            Ok(None)
+        }
         Some(frame) => comma_in(frames, frame.kind, frame.parts, e),
     }
 }
@@ -192,16 +210,24 @@ fn colon(e: Expr, frames: &mut Frames) -> Result<Option<Mode>, NoMemory>
             parts.push(e)?;
             opened(frames, Begun::Length, parts)
         }
-        _ => Ok(None),
+        other => {
+            drop(other);
+            drop(e);
+            Ok(None)
+        }
     }
 }
 
 fn slice(alloc: Global, base: Expr, from: Expr, count: Expr) -> Result<Expr, NoMemory>
     ensures { IfOk result (λ e. e ≡ Machine.sliced (base ∷ (from ∷ [])) count) }
 {
+    let base = Boxed::new(alloc, base);
     let (from, count) = both(alloc, from, count)?;
-    let base = Boxed::new(alloc, base)?;
-    Ok(Expr::Slice { base, from, count })
+    Ok(Expr::Slice {
+        base: base?,
+        from,
+        count,
+    })
 }
 
 /// The two parts, where there are two.
@@ -213,8 +239,13 @@ fn pair(parts: &mut Items<Expr>) -> Option<(Expr, Expr)>
         return None;
     }
     let second = parts.pop()?;
-    let first = parts.pop()?;
-    Some((first, second))
+    match parts.pop() {
+        Some(first) => Some((first, second)),
+        None => {
+            drop(second);
+            None
+        }
+    }
 }
 
 /// A slice of its base and its first place, and of its length.
@@ -251,7 +282,11 @@ fn close_bracket(alloc: Global, e: Expr, frames: &mut Frames) -> Result<Option<M
         Some(frame) if is_length(&frame.kind) => {
             Ok(Some(Mode::Behind(Next::Any, sliced(alloc, frame.parts, e)?)))
         }
-        _ => Ok(None),
+        other => {
+            drop(other);
+            drop(e);
+            Ok(None)
+        }
     }
 }
 
@@ -283,17 +318,11 @@ fn go_on(
             let whole = join_up(alloc, 1, e, frames)?;
             close_bracket(alloc, whole, frames)
         }
-        Token::Number(_)
-        | Token::Text(_)
-        | Token::Name(_)
-        | Token::Protocol(_)
-        | Token::Variable(_)
-        | Token::Column { .. }
-        | Token::Not
-        | Token::Open
-        | Token::Call(_)
-        | Token::IsPresent
-        | Token::LookUp { .. } => Ok(None),
+        other => {
+            drop(other);
+            drop(e);
+            Ok(None)
+        }
     }
 }
 
@@ -308,7 +337,10 @@ fn open_call(
 {
     match token {
         Token::Open => opened(frames, Begun::Argument(call), Items::new(alloc)),
-        _ => Ok(None),
+        other => {
+            drop(other);
+            Ok(None)
+        }
     }
 }
 
@@ -325,7 +357,10 @@ fn key_or_end(
     match token {
         Token::Comma => opened(frames, Begun::Key { table, renew }, keys),
         Token::Close => Ok(Some(Mode::Behind(Next::Any, Expr::LookUp { table, renew, keys }))),
-        _ => Ok(None),
+        other => {
+            drop(other);
+            Ok(None)
+        }
     }
 }
 
@@ -389,7 +424,7 @@ fn settle(state: &mut State, next: Option<Mode>) -> bool
     match next {
         None => false,
         Some(mode) => {
-            state.mode = mode;
+            drop(mem::replace(&mut state.mode, mode));
             true
         }
     }
