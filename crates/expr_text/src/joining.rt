@@ -1,4 +1,5 @@
 ghost use Rattle.std.specs.Prelude.{◌≡◌, IfOk};
+ghost use Rattle.db_model.specs.declared.expression.Expr.TheVariants as Expr;
 ghost use Rattle.expr_text.specs.Tokens;
 ghost use Rattle.expr_text.specs.Machine;
 ghost use Rattle.expr_text.specs.Machine.{joined};
@@ -54,15 +55,25 @@ fn operated(
 fn build(alloc: Global, frame: Frame, e: Expr) -> Result<Expr, NoMemory>
     ensures { IfOk result (λ built. built ≡ Machine.built frame.kind frame.parts e) }
 {
-    match frame.kind {
-        Begun::Operand(operator) => operated(alloc, operator, frame.parts, e),
-        Begun::Negated => Ok(Expr::Not(Boxed::new(alloc, e)?)),
-        Begun::Parenthesis
-        | Begun::Start
-        | Begun::Length
-        | Begun::Argument(_)
-        | Begun::Key { .. } => Ok(e),
+    let Frame { kind, parts } = frame;
+    match kind {
+        Begun::Operand(operator) => operated(alloc, operator, parts, e),
+        Begun::Negated => {
+            drop(parts);
+            negated(alloc, e)
+        }
+        other => {
+            drop(other);
+            drop(parts);
+            Ok(e)
+        }
     }
+}
+
+fn negated(alloc: Global, e: Expr) -> Result<Expr, NoMemory>
+    ensures { IfOk result (λ built. built ≡ Expr.Not e) }
+{
+    Ok(Expr::Not(Boxed::new(alloc, e)?))
 }
 
 /// The expression with all operators in front of it that end before this level.

@@ -206,7 +206,8 @@ fn colon(e: Expr, frames: &mut Frames) -> Result<Option<Mode>, NoMemory>
 {
     match frames.pop() {
         Some(frame) if is_start(&frame.kind) => {
-            let mut parts = frame.parts;
+            let Frame { kind, mut parts } = frame;
+            drop(kind);
             parts.push(e)?;
             opened(frames, Begun::Length, parts)
         }
@@ -280,7 +281,9 @@ fn close_bracket(alloc: Global, e: Expr, frames: &mut Frames) -> Result<Option<M
 {
     match frames.pop() {
         Some(frame) if is_length(&frame.kind) => {
-            Ok(Some(Mode::Behind(Next::Any, sliced(alloc, frame.parts, e)?)))
+            let Frame { kind, parts } = frame;
+            drop(kind);
+            Ok(Some(Mode::Behind(Next::Any, sliced(alloc, parts, e)?)))
         }
         other => {
             drop(other);
