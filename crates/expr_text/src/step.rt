@@ -118,7 +118,9 @@ fn close_in(
             keys.push(e)?;
             Ok(Some(Mode::Behind(Next::Any, Expr::LookUp { table, renew, keys })))
         }
-        Begun::Operand(_) | Begun::Negated | Begun::Start | Begun::Length => {
+        other => {
+            drop(other);
+            drop(parts);
             drop(e);
             Ok(None)
         }
@@ -166,7 +168,9 @@ fn comma_in(
             keys.push(e)?;
             opened(frames, Begun::Key { table, renew }, keys)
         }
-        Begun::Operand(_) | Begun::Negated | Begun::Parenthesis | Begun::Start | Begun::Length => {
+        other => {
+            drop(other);
+            drop(parts);
             drop(e);
             Ok(None)
         }
@@ -186,17 +190,26 @@ fn comma(e: Expr, frames: &mut Frames) -> Result<Option<Mode>, NoMemory>
     }
 }
 
-fn is_start(kind: &Begun) -> bool
-    ensures { (ps : List Expr) → (e : Expr) → (k : Machine.Stack) → Machine.colon_in kind.now ps e k ≡ Machine.when result (Machine.wants (Machine.frame Begun.Length (ps ++ e ∷ []) ∷ k)) }
+fn colon_in(
+    frames: &mut Frames,
+    kind: Begun,
+    parts: Items<Expr>,
+    e: Expr,
+) -> Result<Option<Mode>, NoMemory>
+    ensures { IfOk result (λ mode. now mode frames.new ≡ Machine.colon_in kind parts e frames.old) }
 {
     match kind {
-        Begun::Start => true,
-        Begun::Operand(_)
-        | Begun::Negated
-        | Begun::Parenthesis
-        | Begun::Length
-        | Begun::Argument(_)
-        | Begun::Key { .. } => false,
+        Begun::Start => {
+            let mut parts = parts;
+            parts.push(e)?;
+            opened(frames, Begun::Length, parts)
+        }
+        other => {
+            drop(other);
+            drop(parts);
+            drop(e);
+            Ok(None)
+        }
     }
 }
 
@@ -205,17 +218,11 @@ fn colon(e: Expr, frames: &mut Frames) -> Result<Option<Mode>, NoMemory>
     ensures { IfOk result (λ mode. now mode frames.new ≡ Machine.colon e frames.old) }
 {
     match frames.pop() {
-        Some(frame) if is_start(&frame.kind) => {
-            let Frame { kind, mut parts } = frame;
-            drop(kind);
-            parts.push(e)?;
-            opened(frames, Begun::Length, parts)
-        }
-        other => {
-            drop(other);
+        None => {
             drop(e);
             Ok(None)
         }
+        Some(frame) => colon_in(frames, frame.kind, frame.parts, e),
     }
 }
 
@@ -261,17 +268,22 @@ fn sliced(alloc: Global, parts: Items<Expr>, count: Expr) -> Result<Expr, NoMemo
     }
 }
 
-fn is_length(kind: &Begun) -> bool
-    ensures { (ps : List Expr) → (e : Expr) → (k : Machine.Stack) → Machine.close_bracket_in kind.now ps e k ≡ Machine.when result (Machine.has (Machine.sliced ps e) k) }
+fn close_bracket_in(
+    alloc: Global,
+    kind: Begun,
+    parts: Items<Expr>,
+    e: Expr,
+) -> Result<Option<Mode>, NoMemory>
+    ensures { (k : Machine.Stack) → IfOk result (λ mode. now mode k ≡ Machine.close_bracket_in kind parts e k) }
 {
     match kind {
-        Begun::Length => true,
-        Begun::Operand(_)
-        | Begun::Negated
-        | Begun::Parenthesis
-        | Begun::Start
-        | Begun::Argument(_)
-        | Begun::Key { .. } => false,
+        Begun::Length => Ok(Some(Mode::Behind(Next::Any, sliced(alloc, parts, e)?))),
+        other => {
+            drop(other);
+            drop(parts);
+            drop(e);
+            Ok(None)
+        }
     }
 }
 
@@ -280,16 +292,11 @@ fn close_bracket(alloc: Global, e: Expr, frames: &mut Frames) -> Result<Option<M
     ensures { IfOk result (λ mode. now mode frames.new ≡ Machine.close_bracket e frames.old) }
 {
     match frames.pop() {
-        Some(frame) if is_length(&frame.kind) => {
-            let Frame { kind, parts } = frame;
-            drop(kind);
-            Ok(Some(Mode::Behind(Next::Any, sliced(alloc, parts, e)?)))
-        }
-        other => {
-            drop(other);
+        None => {
             drop(e);
             Ok(None)
         }
+        Some(frame) => close_bracket_in(alloc, frame.kind, frame.parts, e),
     }
 }
 
