@@ -1,5 +1,5 @@
 -- A step of the machine, by what its parts answered.
-use Rattle.std.proofs.Common.{◌≡◌, ◌≤◌, ◌<◌, List, [], ◌∷◌, Option, Some, None, true, subst, sym, ap, ◌∙◌}
+use Rattle.std.proofs.Common.{◌≡◌, ◌≤◌, ◌<◌, [], ◌∷◌, Option, None, subst, sym, ap, ◌∙◌}
 use Rattle.std.proofs.lemmas.Bool.{le-leb, lt-leb}
 use Rattle.std.specs.Prelude.{IfOk, Result}
 use Rattle.db_model.specs.declared.expression.Expr.{Expr}
