@@ -144,6 +144,20 @@ deep_step keys i x m h e =
     let r : capped (max m (capped (depth_of x))) ≡ capped (max m (depth_of x)) = omega arith in
     capped_fold (max m (capped (depth_of x))) (max m (depth_of x)) (map depth_of (drop (i + 1) keys)) r ∙ sym q
 
+sum_from : (a : ℕ) (ns : List ℕ) → fold ◌+◌ a ns ≡ a + sum ns
+sum_from a [] = omega arith
+sum_from a (n ∷ ns) =
+    let p : fold ◌+◌ a (n ∷ ns) ≡ a + n + sum ns = sum_from (a + n) ns in
+    let q : sum (n ∷ ns) ≡ 0 + n + sum ns = sum_from (0 + n) ns in
+    omega arith
+
+pub sum_step : (keys : List Expr) (i : ℕ) (x : Expr) (t : ℕ) → i < length keys → x ≡ get_or keys i x
+    → capped (capped (t + capped (nodes_of x)) + sum (map nodes_of (drop (i + 1) keys))) ≡ capped (t + sum (map nodes_of (drop i keys)))
+sum_step keys i x t h e =
+    let q : sum (map nodes_of (drop i keys)) ≡ sum (map nodes_of (x ∷ drop (i + 1) keys)) = at_drop_more (λ ys. sum (map nodes_of ys)) keys i x h ∙ ap (λ (y : Expr). sum (map nodes_of (y ∷ drop (i + 1) keys))) (sym e) in
+    let r : sum (map nodes_of (x ∷ drop (i + 1) keys)) ≡ 0 + nodes_of x + sum (map nodes_of (drop (i + 1) keys)) = sum_from (0 + nodes_of x) (map nodes_of (drop (i + 1) keys)) in
+    omega arith
+
 pub sum_end : (keys : List Expr) (i t : ℕ) → length keys ≤ i → t < 2 ^ 32 → capped (t + sum (map nodes_of (drop i keys))) ≡ t
 sum_end keys i t h b = at_drop_all (λ ys. capped (t + sum (map nodes_of ys))) keys i h ∙ omega arith
 

@@ -18,3 +18,4 @@ pub mod Skipping
 pub mod WellFormed
 pub mod Words
 pub mod Slices
+pub mod Steps

@@ -1,14 +1,14 @@
 -- The canonical text of each form of an expression, by its parts.
-use Rattle.std.specs.Prelude.{◌≡◌, ℕ, Bool, List, ◌++◌, map, codes, OnOk, Result, Ok, Err}
-use Rattle.std.proofs.Common.{sym, ap, subst, ◌∙◌}
-use Rattle.std.proofs.lemmas.List.{append_assoc}
+use Rattle.std.specs.Prelude.{◌≡◌, ◌<◌, ◌+◌, ℕ, Bool, List, ◌++◌, length, drop, map, codes, OnOk, Result, Ok, Err}
+use Rattle.std.proofs.Common.{get_or, sym, ap, subst, ◌∙◌}
+use Rattle.std.proofs.lemmas.List.{append_assoc, at_drop_more}
 use Rattle.db_model.specs.declared.expression.Expr as expr
 use Rattle.db_model.specs.declared.expression.Expr.{Expr}
 use Rattle.db_model.specs.declared.expression.Operator.{Operator}
 use Rattle.db_model.specs.declared.naming.ReservedWord.TheVariants as word
 use Rattle.db_model.specs.Names.{Text}
 use Rattle.db_model.proofs.Layers.{fold_not, fold_and, fold_or, fold_binary, fold_slice, fold_to_number, fold_length_of, fold_to_bytes, fold_has_text, fold_look_up}
-use Rattle.expr_text.specs.Printing.{Printed, spaced, compound, simple, operand, arguments, negation, conjunction, disjunction, operator_text, slice_text, number_call, length_call, bytes_call, text_call, look_up_call, printed_step, printing}
+use Rattle.expr_text.specs.Printing.{Printed, escaped, all_escaped, spaced, compound, simple, operand, arguments, negation, conjunction, disjunction, operator_text, slice_text, number_call, length_call, bytes_call, text_call, look_up_call, printed_step, printing}
 
 pub printing_not : (a : Expr) → printing (expr.Not a) ≡ compound (negation (operand (printing a)))
 printing_not a = fold_not Printed printed_step a
@@ -74,3 +74,21 @@ adds_disjunction r t0 t1 t2 a b h k = two_pieces r t0 t1 t2 a (spaced word.Or) b
 pub adds_slice : {T E : Type 0} (r : Result T E) (t0 t1 t2 t3 a b d : List ℕ) → t1 ≡ t0 ++ (a ++ codes "[") → t2 ≡ t1 ++ (b ++ codes ":") → OnOk r (t3 ≡ t2 ++ (d ++ codes "]")) → OnOk r (t3 ≡ t0 ++ slice_text a b d)
 unfolding slice_text
 adds_slice r t0 t1 t2 t3 a b d h i k = three_pieces r t0 t1 t2 t3 a (codes "[") b (codes ":") d (codes "]") h i k
+
+-- ---- one more of a list
+
+pub more_escaped : (t0 t1 bytes : List ℕ) (i : ℕ) → i < length bytes → t1 ≡ t0 ++ escaped (get_or bytes i 0) → t1 ++ all_escaped (drop (i + 1) bytes) ≡ t0 ++ all_escaped (drop i bytes)
+more_escaped t0 t1 bytes i h q =
+    ap (λ t. t ++ all_escaped (drop (i + 1) bytes)) q
+    ∙ append_assoc t0 (escaped (get_or bytes i 0)) (all_escaped (drop (i + 1) bytes))
+    ∙ sym (at_drop_more (λ bs. t0 ++ all_escaped bs) bytes i 0 h)
+
+pub more_arguments : (t0 t1 t2 : List ℕ) (keys : List Expr) (i : ℕ) (x : Expr) → i < length keys → x ≡ get_or keys i x → t1 ≡ t0 ++ codes ", " → t2 ≡ t1 ++ (printing x).bytes
+    → t2 ++ arguments (map printing (drop (i + 1) keys)) ≡ t0 ++ arguments (map printing (drop i keys))
+more_arguments t0 t1 t2 keys i x h e p q =
+    let rest : List ℕ = arguments (map printing (drop (i + 1) keys)) in
+    ap (λ t. t ++ rest) (then_pieces t0 t1 t2 (codes ", ") (printing x).bytes p q)
+    ∙ append_assoc t0 (codes ", " ++ (printing x).bytes) rest
+    ∙ ap (λ t. t0 ++ t) (append_assoc (codes ", ") (printing x).bytes rest)
+    ∙ ap (λ y. t0 ++ (codes ", " ++ ((printing y).bytes ++ rest))) e
+    ∙ sym (at_drop_more (λ ks. t0 ++ arguments (map printing ks)) keys i x h)

@@ -14,7 +14,10 @@ pub fn open_present(token: Token) -> Option<Mode>
 {
     match token {
         Token::Open => Some(Mode::Wants(Wanted::PresentName)),
-        _ => None,
+        other => {
+            drop(other);
+            None
+        }
     }
 }
 
@@ -24,7 +27,10 @@ pub fn present_name(token: Token) -> Option<Mode>
 {
     match token {
         Token::Name(name) => Some(Mode::Behind(Next::Closes, Expr::IsPresent(name))),
-        _ => None,
+        other => {
+            drop(other);
+            None
+        }
     }
 }
 
@@ -34,7 +40,10 @@ pub fn open_look_up(renew: bool, token: Token) -> Option<Mode>
 {
     match token {
         Token::Open => Some(Mode::Wants(Wanted::TableName { renew })),
-        _ => None,
+        other => {
+            drop(other);
+            None
+        }
     }
 }
 
@@ -48,7 +57,10 @@ pub fn table_name(alloc: Global, renew: bool, token: Token) -> Option<Mode>
             renew,
             keys: Items::new(alloc),
         }),
-        _ => None,
+        other => {
+            drop(other);
+            None
+        }
     }
 }
 
@@ -61,7 +73,11 @@ pub fn size(alloc: Global, e: Expr, token: Token) -> Result<Option<Mode>, NoMemo
             let value = Boxed::new(alloc, e)?;
             Ok(Some(Mode::Behind(Next::Closes, Expr::ToBytes { value, size })))
         }
-        _ => Ok(None),
+        other => {
+            drop(other);
+            drop(e);
+            Ok(None)
+        }
     }
 }
 
@@ -74,7 +90,11 @@ pub fn searched(alloc: Global, e: Expr, token: Token) -> Result<Option<Mode>, No
             let within = Boxed::new(alloc, e)?;
             Ok(Some(Mode::Behind(Next::Closes, Expr::HasText { within, text })))
         }
-        _ => Ok(None),
+        other => {
+            drop(other);
+            drop(e);
+            Ok(None)
+        }
     }
 }
 
@@ -84,6 +104,10 @@ pub fn closes(e: Expr, token: Token) -> Option<Mode>
 {
     match token {
         Token::Close => Some(Mode::Behind(Next::Any, e)),
-        _ => None,
+        other => {
+            drop(other);
+            drop(e);
+            None
+        }
     }
 }

@@ -1,4 +1,5 @@
 ghost use Rattle.std.specs.Prelude.{◌≡◌, IfOk};
+ghost use Rattle.db_model.specs.declared.expression.Expr.TheVariants as Expr;
 ghost use Rattle.expr_text.specs.Tokens;
 ghost use Rattle.expr_text.specs.Machine;
 ghost use Rattle.expr_text.specs.Machine.{joined};
@@ -14,9 +15,9 @@ use std::alloc::Global;
 pub fn both(alloc: Global, a: Expr, b: Expr) -> Result<(Boxed<Expr>, Boxed<Expr>), NoMemory>
     ensures { IfOk result (λ parts. (parts.0 ≡ a) × (parts.1 ≡ b)) }
 {
-    let a = Boxed::new(alloc, a)?;
+    let a = Boxed::new(alloc, a);
     let b = Boxed::new(alloc, b)?;
-    Ok((a, b))
+    Ok((a?, b))
 }
 
 /// What an operator makes of its two operands.
@@ -43,7 +44,10 @@ fn operated(
     let mut before = before;
     match before.pop() {
         Some(left) if before.is_empty() => joined_by(alloc, operator, left, e),
-        _ => Ok(e),
+        other => {
+            drop(other);
+            Ok(e)
+        }
     }
 }
 
@@ -51,15 +55,25 @@ fn operated(
 fn build(alloc: Global, frame: Frame, e: Expr) -> Result<Expr, NoMemory>
     ensures { IfOk result (λ built. built ≡ Machine.built frame.kind frame.parts e) }
 {
-    match frame.kind {
-        Begun::Operand(operator) => operated(alloc, operator, frame.parts, e),
-        Begun::Negated => Ok(Expr::Not(Boxed::new(alloc, e)?)),
-        Begun::Parenthesis
-        | Begun::Start
-        | Begun::Length
-        | Begun::Argument(_)
-        | Begun::Key { .. } => Ok(e),
+    let Frame { kind, parts } = frame;
+    match kind {
+        Begun::Operand(operator) => operated(alloc, operator, parts, e),
+        Begun::Negated => {
+            drop(parts);
+            negated(alloc, e)
+        }
+        other => {
+            drop(other);
+            drop(parts);
+            Ok(e)
+        }
     }
+}
+
+fn negated(alloc: Global, e: Expr) -> Result<Expr, NoMemory>
+    ensures { IfOk result (λ built. built ≡ Expr.Not e) }
+{
+    Ok(Expr::Not(Boxed::new(alloc, e)?))
 }
 
 /// The expression with all operators in front of it that end before this level.

@@ -24,7 +24,10 @@ fn read(mode: Mode) -> Option<Expr>
 {
     match mode {
         Mode::Behind(Next::Any, e) => Some(e),
-        Mode::Behind(_, _) | Mode::Wants(_) | Mode::Keys { .. } => None,
+        other => {
+            drop(other);
+            None
+        }
     }
 }
 
@@ -44,6 +47,7 @@ fn finish(alloc: Global, state: &mut State, len: usize) -> Result<Expr, ExprFail
     if state.stack.is_empty() {
         Ok(whole)
     } else {
+        drop(whole);
         Err(early)
     }
 }
@@ -74,7 +78,9 @@ fn run(alloc: Global, text: &[u8]) -> Result<Expr, ExprFail>
         mode: Mode::Wants(Wanted::Expression),
         stack: Frames::new(alloc),
     };
-    run_from(alloc, &mut state, text)
+    let answer = run_from(alloc, &mut state, text);
+    drop(state);
+    answer
 }
 
 /// The expression of a text of `len` bytes, unless it has too many nodes or is too deep.
@@ -85,6 +91,7 @@ fn judge(e: Expr, len: usize) -> Result<Expr, ExprFail>
     if is_small(&e) {
         return Ok(e);
     }
+    drop(e);
     Err(ExprFail::Fault {
         at: len as u32,
         code: 4,

@@ -2,6 +2,7 @@ ghost use Rattle.std.specs.Prelude.{◌≡◌, ◌++◌, ◌∷◌, [], map, cod
 ghost use Rattle.std.specs.Fmt.{decimal};
 ghost use Rattle.hex.specs.Hex.{encode_lower};
 ghost use Rattle.db_model.specs.Name.{spelling};
+ghost use Rattle.db_model.specs.declared.naming.ReservedWord.TheVariants as ReservedWord;
 ghost use Rattle.expr_text.specs.Printing;
 
 use db_model::{Expr, Name, NoMemory, Operator, ReservedWord};
@@ -47,6 +48,14 @@ fn push_spaced(text: &mut Vec<u8>, word: ReservedWord) -> Result<(), NoMemory>
     push(text, b" ")?;
     push_word(text, word)?;
     push(text, b" ")
+}
+
+/// Adds a reserved word and the parenthesis behind it.
+fn push_opening(text: &mut Vec<u8>, word: ReservedWord) -> Result<(), NoMemory>
+    ensures { OnOk result (text.new.items ≡ text.old.items ++ (spelling word ++ codes "(")) }
+{
+    push_word(text, word)?;
+    push(text, b"(")
 }
 
 // ---- texts
@@ -146,8 +155,7 @@ fn push_operand(text: &mut Vec<u8>, e: &Expr) -> Result<(), NoMemory>
 {
     if is_compound(e) {
         push(text, b"(")?;
-        push_expr(text, e)?;
-        push(text, b")")
+        push_before(text, e, b")")
     } else {
         push_expr(text, e)
     }
@@ -245,9 +253,15 @@ fn push_column(text: &mut Vec<u8>, table: &Name, column: &Name) -> Result<(), No
 fn push_negation(text: &mut Vec<u8>, a: &Expr) -> Result<(), NoMemory>
     ensures { OnOk result (text.new.items ≡ text.old.items ++ Printing.negation (Printing.operand (Printing.printing a.now))) }
 {
-    push_word(text, ReservedWord::Not)?;
-    push(text, b" ")?;
+    push_not(text)?;
     push_operand(text, a)
+}
+
+fn push_not(text: &mut Vec<u8>) -> Result<(), NoMemory>
+    ensures { OnOk result (text.new.items ≡ text.old.items ++ (spelling ReservedWord.Not ++ codes " ")) }
+{
+    push_word(text, ReservedWord::Not)?;
+    push(text, b" ")
 }
 
 /// Adds an operator with a space on each side.
@@ -274,15 +288,29 @@ fn push_operator(text: &mut Vec<u8>, operator: Operator) -> Result<(), NoMemory>
 
 // ---- calls
 
+/// A number as the last argument.
+fn push_last_number(text: &mut Vec<u8>, number: u32) -> Result<(), NoMemory>
+    ensures { OnOk result (text.new.items ≡ text.old.items ++ (decimal number ++ codes ")")) }
+{
+    push_number(text, number)?;
+    push(text, b")")
+}
+
+/// A text as the last argument.
+fn push_last_text(text: &mut Vec<u8>, bytes: &[u8]) -> Result<(), NoMemory>
+    ensures { OnOk result (text.new.items ≡ text.old.items ++ (Printing.quoted bytes.now ++ codes ")")) }
+{
+    push_quoted(text, bytes)?;
+    push(text, b")")
+}
+
 #[cycle(print)]
 #[tactic(auto, unfolding(crate::specs::Printing::number_call, crate::specs::Printing::in_parentheses))]
 fn push_number_call(text: &mut Vec<u8>, a: &Expr) -> Result<(), NoMemory>
     ensures { OnOk result (text.new.items ≡ text.old.items ++ Printing.number_call (Printing.printing a.now).bytes) }
 {
-    push_word(text, ReservedWord::ToNumber)?;
-    push(text, b"(")?;
-    push_expr(text, a)?;
-    push(text, b")")
+    push_opening(text, ReservedWord::ToNumber)?;
+    push_before(text, a, b")")
 }
 
 #[cycle(print)]
@@ -290,10 +318,8 @@ fn push_number_call(text: &mut Vec<u8>, a: &Expr) -> Result<(), NoMemory>
 fn push_length_call(text: &mut Vec<u8>, a: &Expr) -> Result<(), NoMemory>
     ensures { OnOk result (text.new.items ≡ text.old.items ++ Printing.length_call (Printing.printing a.now).bytes) }
 {
-    push_word(text, ReservedWord::LengthOf)?;
-    push(text, b"(")?;
-    push_expr(text, a)?;
-    push(text, b")")
+    push_opening(text, ReservedWord::LengthOf)?;
+    push_before(text, a, b")")
 }
 
 #[cycle(print)]
@@ -301,12 +327,9 @@ fn push_length_call(text: &mut Vec<u8>, a: &Expr) -> Result<(), NoMemory>
 fn push_bytes_call(text: &mut Vec<u8>, a: &Expr, size: u32) -> Result<(), NoMemory>
     ensures { OnOk result (text.new.items ≡ text.old.items ++ Printing.bytes_call (Printing.printing a.now).bytes size) }
 {
-    push_word(text, ReservedWord::ToBytes)?;
-    push(text, b"(")?;
-    push_expr(text, a)?;
-    push(text, b", ")?;
-    push_number(text, size)?;
-    push(text, b")")
+    push_opening(text, ReservedWord::ToBytes)?;
+    push_before(text, a, b", ")?;
+    push_last_number(text, size)
 }
 
 #[cycle(print)]
@@ -314,20 +337,16 @@ fn push_bytes_call(text: &mut Vec<u8>, a: &Expr, size: u32) -> Result<(), NoMemo
 fn push_text_call(text: &mut Vec<u8>, a: &Expr, wanted: &[u8]) -> Result<(), NoMemory>
     ensures { OnOk result (text.new.items ≡ text.old.items ++ Printing.text_call (Printing.printing a.now).bytes wanted.now) }
 {
-    push_word(text, ReservedWord::HasText)?;
-    push(text, b"(")?;
-    push_expr(text, a)?;
-    push(text, b", ")?;
-    push_quoted(text, wanted)?;
-    push(text, b")")
+    push_opening(text, ReservedWord::HasText)?;
+    push_before(text, a, b", ")?;
+    push_last_text(text, wanted)
 }
 
 #[tactic(auto, unfolding(crate::specs::Printing::presence_call, crate::specs::Printing::in_parentheses))]
 fn push_presence_call(text: &mut Vec<u8>, name: &Name) -> Result<(), NoMemory>
     ensures { OnOk result (text.new.items ≡ text.old.items ++ Printing.presence_call name.now) }
 {
-    push_word(text, ReservedWord::IsPresent)?;
-    push(text, b"(")?;
+    push_opening(text, ReservedWord::IsPresent)?;
     push(text, name.as_slice())?;
     push(text, b")")
 }
@@ -342,11 +361,17 @@ fn push_look_up(
 ) -> Result<(), NoMemory>
     ensures { OnOk result (text.new.items ≡ text.old.items ++ Printing.look_up_call renew table.now (Printing.arguments (map Printing.printing keys.now))) }
 {
-    push_word(text, look_up_word(renew))?;
-    push(text, b"(")?;
-    push(text, table.as_slice())?;
+    push_table(text, renew, table)?;
     push_arguments(text, keys)?;
     push(text, b")")
+}
+
+/// The front of a look-up.
+fn push_table(text: &mut Vec<u8>, renew: bool, table: &Name) -> Result<(), NoMemory>
+    ensures { OnOk result (text.new.items ≡ text.old.items ++ (Printing.look_up_name renew ++ (codes "(" ++ table.now))) }
+{
+    push_opening(text, look_up_word(renew))?;
+    push(text, table.as_slice())
 }
 
 #[tactic(auto, unfolding(crate::specs::Printing::look_up_name))]

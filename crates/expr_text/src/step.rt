@@ -84,6 +84,7 @@ fn operator(
     if frames.wanted() <= operator.level() {
         opened_behind(alloc, frames, Begun::Operand(operator), left)
     } else {
+        drop(left);
         Ok(None)
     }
 }
@@ -94,7 +95,10 @@ fn close_call(alloc: Global, call: Call, e: Expr) -> Result<Option<Mode>, NoMemo
     match call {
         Call::ToNumber => Ok(Some(Mode::Behind(Next::Any, Expr::ToNumber(Boxed::new(alloc, e)?)))),
         Call::LengthOf => Ok(Some(Mode::Behind(Next::Any, Expr::LengthOf(Boxed::new(alloc, e)?)))),
-        Call::ToBytes | Call::HasText => Ok(None),
+        Call::ToBytes | Call::HasText => {
+            drop(e);
+            Ok(None)
+        }
     }
 }
 
@@ -114,7 +118,12 @@ fn close_in(
             keys.push(e)?;
             Ok(Some(Mode::Behind(Next::Any, Expr::LookUp { table, renew, keys })))
         }
-        Begun::Operand(_) | Begun::Negated | Begun::Start | Begun::Length => Ok(None),
+        other => {
+            drop(other);
+            drop(parts);
+            drop(e);
+            Ok(None)
+        }
     }
 }
 
@@ -123,7 +132,10 @@ fn close(alloc: Global, e: Expr, frames: &mut Frames) -> Result<Option<Mode>, No
     ensures { IfOk result (λ mode. now mode frames.new ≡ Machine.close e frames.old) }
 {
     match frames.pop() {
-        None => Ok(None),
+        None => {
+            drop(e);
+            Ok(None)
+        }
         Some(frame) => close_in(alloc, frame.kind, frame.parts, e),
     }
 }
@@ -132,7 +144,10 @@ fn comma_in_call(call: Call, e: Expr) -> Option<Mode>
     ensures { (k : Machine.Stack) → now result k ≡ Machine.comma_in_call call e k }
 {
     match call {
-        Call::ToNumber | Call::LengthOf => None,
+        Call::ToNumber | Call::LengthOf => {
+            drop(e);
+            None
+        }
         Call::ToBytes => Some(Mode::Behind(Next::Size, e)),
         Call::HasText => Some(Mode::Behind(Next::Searched, e)),
     }
@@ -153,8 +168,12 @@ fn comma_in(
             keys.push(e)?;
             opened(frames, Begun::Key { table, renew }, keys)
         }
-        Begun::Operand(_) | Begun::Negated | Begun::Parenthesis | Begun::Start | Begun::Length =>
-            Ok(None),
+        other => {
+            drop(other);
+            drop(parts);
+            drop(e);
+            Ok(None)
+        }
     }
 }
 
@@ -163,22 +182,34 @@ fn comma(e: Expr, frames: &mut Frames) -> Result<Option<Mode>, NoMemory>
     ensures { IfOk result (λ mode. now mode frames.new ≡ Machine.comma e frames.old) }
 {
     match frames.pop() {
-        None => Ok(None),
+        None => {
+            drop(e);
+            Ok(None)
+        }
         Some(frame) => comma_in(frames, frame.kind, frame.parts, e),
     }
 }
 
-fn is_start(kind: &Begun) -> bool
-    ensures { (ps : List Expr) → (e : Expr) → (k : Machine.Stack) → Machine.colon_in kind.now ps e k ≡ Machine.when result (Machine.wants (Machine.frame Begun.Length (ps ++ e ∷ []) ∷ k)) }
+fn colon_in(
+    frames: &mut Frames,
+    kind: Begun,
+    parts: Items<Expr>,
+    e: Expr,
+) -> Result<Option<Mode>, NoMemory>
+    ensures { IfOk result (λ mode. now mode frames.new ≡ Machine.colon_in kind parts e frames.old) }
 {
     match kind {
-        Begun::Start => true,
-        Begun::Operand(_)
-        | Begun::Negated
-        | Begun::Parenthesis
-        | Begun::Length
-        | Begun::Argument(_)
-        | Begun::Key { .. } => false,
+        Begun::Start => {
+            let mut parts = parts;
+            parts.push(e)?;
+            opened(frames, Begun::Length, parts)
+        }
+        other => {
+            drop(other);
+            drop(parts);
+            drop(e);
+            Ok(None)
+        }
     }
 }
 
@@ -187,21 +218,24 @@ fn colon(e: Expr, frames: &mut Frames) -> Result<Option<Mode>, NoMemory>
     ensures { IfOk result (λ mode. now mode frames.new ≡ Machine.colon e frames.old) }
 {
     match frames.pop() {
-        Some(frame) if is_start(&frame.kind) => {
-            let mut parts = frame.parts;
-            parts.push(e)?;
-            opened(frames, Begun::Length, parts)
+        None => {
+            drop(e);
+            Ok(None)
         }
-        _ => Ok(None),
+        Some(frame) => colon_in(frames, frame.kind, frame.parts, e),
     }
 }
 
 fn slice(alloc: Global, base: Expr, from: Expr, count: Expr) -> Result<Expr, NoMemory>
     ensures { IfOk result (λ e. e ≡ Machine.sliced (base ∷ (from ∷ [])) count) }
 {
+    let base = Boxed::new(alloc, base);
     let (from, count) = both(alloc, from, count)?;
-    let base = Boxed::new(alloc, base)?;
-    Ok(Expr::Slice { base, from, count })
+    Ok(Expr::Slice {
+        base: base?,
+        from,
+        count,
+    })
 }
 
 /// The two parts, where there are two.
@@ -213,8 +247,13 @@ fn pair(parts: &mut Items<Expr>) -> Option<(Expr, Expr)>
         return None;
     }
     let second = parts.pop()?;
-    let first = parts.pop()?;
-    Some((first, second))
+    match parts.pop() {
+        Some(first) => Some((first, second)),
+        None => {
+            drop(second);
+            None
+        }
+    }
 }
 
 /// A slice of its base and its first place, and of its length.
@@ -229,17 +268,22 @@ fn sliced(alloc: Global, parts: Items<Expr>, count: Expr) -> Result<Expr, NoMemo
     }
 }
 
-fn is_length(kind: &Begun) -> bool
-    ensures { (ps : List Expr) → (e : Expr) → (k : Machine.Stack) → Machine.close_bracket_in kind.now ps e k ≡ Machine.when result (Machine.has (Machine.sliced ps e) k) }
+fn close_bracket_in(
+    alloc: Global,
+    kind: Begun,
+    parts: Items<Expr>,
+    e: Expr,
+) -> Result<Option<Mode>, NoMemory>
+    ensures { (k : Machine.Stack) → IfOk result (λ mode. now mode k ≡ Machine.close_bracket_in kind parts e k) }
 {
     match kind {
-        Begun::Length => true,
-        Begun::Operand(_)
-        | Begun::Negated
-        | Begun::Parenthesis
-        | Begun::Start
-        | Begun::Argument(_)
-        | Begun::Key { .. } => false,
+        Begun::Length => Ok(Some(Mode::Behind(Next::Any, sliced(alloc, parts, e)?))),
+        other => {
+            drop(other);
+            drop(parts);
+            drop(e);
+            Ok(None)
+        }
     }
 }
 
@@ -248,10 +292,11 @@ fn close_bracket(alloc: Global, e: Expr, frames: &mut Frames) -> Result<Option<M
     ensures { IfOk result (λ mode. now mode frames.new ≡ Machine.close_bracket e frames.old) }
 {
     match frames.pop() {
-        Some(frame) if is_length(&frame.kind) => {
-            Ok(Some(Mode::Behind(Next::Any, sliced(alloc, frame.parts, e)?)))
+        None => {
+            drop(e);
+            Ok(None)
         }
-        _ => Ok(None),
+        Some(frame) => close_bracket_in(alloc, frame.kind, frame.parts, e),
     }
 }
 
@@ -283,17 +328,11 @@ fn go_on(
             let whole = join_up(alloc, 1, e, frames)?;
             close_bracket(alloc, whole, frames)
         }
-        Token::Number(_)
-        | Token::Text(_)
-        | Token::Name(_)
-        | Token::Protocol(_)
-        | Token::Variable(_)
-        | Token::Column { .. }
-        | Token::Not
-        | Token::Open
-        | Token::Call(_)
-        | Token::IsPresent
-        | Token::LookUp { .. } => Ok(None),
+        other => {
+            drop(other);
+            drop(e);
+            Ok(None)
+        }
     }
 }
 
@@ -308,7 +347,10 @@ fn open_call(
 {
     match token {
         Token::Open => opened(frames, Begun::Argument(call), Items::new(alloc)),
-        _ => Ok(None),
+        other => {
+            drop(other);
+            Ok(None)
+        }
     }
 }
 
@@ -325,7 +367,10 @@ fn key_or_end(
     match token {
         Token::Comma => opened(frames, Begun::Key { table, renew }, keys),
         Token::Close => Ok(Some(Mode::Behind(Next::Any, Expr::LookUp { table, renew, keys }))),
-        _ => Ok(None),
+        other => {
+            drop(other);
+            Ok(None)
+        }
     }
 }
 
@@ -389,7 +434,7 @@ fn settle(state: &mut State, next: Option<Mode>) -> bool
     match next {
         None => false,
         Some(mode) => {
-            state.mode = mode;
+            drop(mem::replace(&mut state.mode, mode));
             true
         }
     }

@@ -1,6 +1,6 @@
-use Rattle.std.proofs.Common.{sym, ap, ◌∙◌}
+use Rattle.std.proofs.Common.{sym, ap, ◌∙◌, arith}
 use Rattle.db_model.specs.declared.expression.Expr as expr
-use Rattle.expr_text.proofs.PrintedForms.{adds_form, two_pieces, adds_conjunction, adds_disjunction, adds_slice, printing_not, printing_and, printing_or, printing_binary, printing_slice, printing_to_number, printing_length_of, printing_to_bytes, printing_has_text, printing_look_up}
+use Rattle.expr_text.proofs.PrintedForms.{adds_form, two_pieces, more_arguments, adds_conjunction, adds_disjunction, adds_slice, printing_not, printing_and, printing_or, printing_binary, printing_slice, printing_to_number, printing_length_of, printing_to_bytes, printing_has_text, printing_look_up}
 use Rattle.expr_text.proofs.print.+print.Goals as goal
 
 pub push_expr-returns-in-Not : goal.push_expr-returns-in-Not
@@ -32,3 +32,6 @@ push_expr-returns-in_ok-push_left_operator-in-Binary t c = adds_form c.args.e.no
 
 pub push_expr-returns-in_ok-push_before-in-Slice : goal.push_expr-returns-in_ok-push_before-in-Slice
 push_expr-returns-in_ok-push_before-in-Slice t c = adds_form c.args.e.now _ _ _ _ _ (c.in-Slice.is ∙ (λ i. expr.Slice (sym c.get-in-Slice.ensures i) (sym c.get-in-Slice-2.ensures i) (sym c.get-in-Slice-3.ensures i))) (printing_slice c.get-in-Slice.result.now c.get-in-Slice-2.result.now c.get-in-Slice-3.result.now) (adds_slice c.push_before-in-Slice.result c.args.text.now.items c.push_left.new.text.items c.push_before.new.text.items c.push_before-in-Slice.new.text.items _ _ _ c.in_ok-push_left-in-Slice.ensures c.in_ok-push_before-in-Slice.ensures c.push_before-in-Slice.ensures)
+
+pub push_arguments-loop-key-preserved : goal.push_arguments-loop-key-preserved
+push_arguments-loop-key-preserved t c = more_arguments c.loop-key.text.items c.push.new.text.items c.push_expr.new.text.items c.args.keys.now c.loop-key.key-index c.key-item.result (omega arith) c.key-item.is c.in_ok-push.ensures c.in_ok-push_expr.ensures ∙ c.loop-key.invariant

@@ -1,7 +1,7 @@
-use Rattle.std.proofs.Common.{◌+◌, map, sum, sym, ◌∙◌, arith}
+use Rattle.std.proofs.Common.{◌+◌, map, sum, drop, sym, ap, ◌∙◌, arith}
 use Rattle.db_model.specs.Forms.{nodes_of}
 use Rattle.expr_text.specs.Sizes.{capped}
-use Rattle.expr_text.proofs.Counting.{one_part, two_parts, three_parts, key_parts, capped_not, capped_and, capped_or, capped_binary, capped_slice, capped_to_number, capped_length_of, capped_to_bytes, capped_has_text, capped_look_up, sum_end}
+use Rattle.expr_text.proofs.Counting.{one_part, two_parts, three_parts, key_parts, capped_not, capped_and, capped_or, capped_binary, capped_slice, capped_to_number, capped_length_of, capped_to_bytes, capped_has_text, capped_look_up, sum_step, sum_end}
 use Rattle.expr_text.proofs.sizes.+nodes.Goals as goal
 
 pub nodes-returns-in-Not : goal.nodes-returns-in-Not
@@ -36,3 +36,11 @@ nodes-returns-in-LookUp t c = key_parts nodes_of (λ ks. sum (map nodes_of ks)) 
 
 pub nodes_in-returns : goal.nodes_in-returns
 nodes_in-returns t c = sym (sum_end c.args.keys.now c.loop-key.key-index c.loop-key.sum (omega arith) (omega arith)) ∙ c.loop-key.invariant.0
+
+pub nodes_in-loop-key-preserved : goal.nodes_in-loop-key-preserved
+nodes_in-loop-key-preserved t c = (
+  ap (λ s. capped (s + sum (map nodes_of (drop (c.loop-key.key-index + 1) c.args.keys.now)))) (c.total-sum.ensures ∙ ap (λ n. capped (c.loop-key.sum + n)) c.nodes.ensures)
+      ∙ sum_step c.args.keys.now c.loop-key.key-index c.key-item.result c.loop-key.sum (omega arith) c.key-item.is
+      ∙ c.loop-key.invariant.0,
+  omega arith,
+)
