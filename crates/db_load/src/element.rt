@@ -1,4 +1,5 @@
-//! Elements from the elements of a text.
+//! Elements from the elements of a text. In each the expression is read last, since whatever fails behind it would
+//! have to let it go again.
 
 ghost use Rattle.std.specs.Prelude.{◌≡◌, ◌++◌, ◌∷◌, [], map, IfOk, OnOk};
 ghost use Rattle.db_text.specs.declared.node.Node.{Node, out-Node};
@@ -52,9 +53,9 @@ fn field(alloc: Global, node: &Node) -> Result<Element, NoMemory>
     Ok(Element::Field {
         line: node.line,
         name: name_by(alloc, value_of(attributes, Word::Name))?,
-        form: form(alloc, attributes)?,
         longname: text_by(alloc, value_of(attributes, Word::LongName))?,
         show: optional_name_by(alloc, value_of(attributes, Word::Show))?,
+        form: form(alloc, attributes)?,
     })
 }
 
@@ -193,8 +194,8 @@ fn repetition(alloc: Global, node: &Node) -> Result<Element, NoMemory>
     Ok(Element::Loop {
         line: node.line,
         kind: loop_kind_by(value_of(attributes, Word::Type)),
-        expr: expr_by(alloc, value_of(attributes, Word::Expr))?,
         body: list(alloc, children(Kind::Loop), node.children.as_slice())?,
+        expr: expr_by(alloc, value_of(attributes, Word::Expr))?,
     })
 }
 
@@ -205,9 +206,9 @@ fn switch(alloc: Global, of: ListKind, node: &Node) -> Result<Element, NoMemory>
     let nodes = node.children.as_slice();
     Ok(Element::Switch {
         line: node.line,
-        expr: expr_by(alloc, value_of(node.attributes.as_slice(), Word::Expr))?,
         cases: cases(alloc, of, nodes)?,
         otherwise: branch(alloc, of, Word::Default, nodes)?,
+        expr: expr_by(alloc, value_of(node.attributes.as_slice(), Word::Expr))?,
     })
 }
 
@@ -216,9 +217,9 @@ fn condition(alloc: Global, of: ListKind, node: &Node) -> Result<Element, NoMemo
     ensures { IfOk result (λ e. e ≡ Meaning.condition_by of (Meaning.layer node.now)) }
 {
     let nodes = node.children.as_slice();
-    let expr = expr_by(alloc, value_of(node.attributes.as_slice(), Word::Expr))?;
     let so = branch(alloc, of, Word::IfTrue, nodes)?;
     let otherwise = branch(alloc, of, Word::IfFalse, nodes)?;
+    let expr = expr_by(alloc, value_of(node.attributes.as_slice(), Word::Expr))?;
     Ok(condition_of(alloc, node.line, expr, so, otherwise))
 }
 
