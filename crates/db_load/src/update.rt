@@ -25,8 +25,8 @@ fn key(alloc: Global, node: &Node) -> Result<Option<UpdateKey>, NoMemory>
     let attributes = node.attributes.as_slice();
     Ok(Some(UpdateKey {
         line: node.line,
-        value: expr_by(alloc, value_of(attributes, Word::Value))?,
         mask: mask_by(alloc, value_of(attributes, Word::Mask))?,
+        value: expr_by(alloc, value_of(attributes, Word::Value))?,
     }))
 }
 
