@@ -2,13 +2,11 @@
 //! each way out behind it lets go at once.
 
 ghost use Rattle.std.specs.Prelude.{◌≡◌, IfOk};
-ghost use Rattle.db_load.specs.Meaning.{at};
 ghost use Rattle.db_load.specs.Values.{name_by, optional_name_by, text_by};
 ghost use Rattle.db_load.specs.Whole;
 ghost use Rattle.db_load.specs.declared.kind.Kind.TheVariants as kind;
 ghost use Rattle.db_load.specs.declared.word.Word.TheVariants as word;
 
-use crate::attribute::value_of;
 use crate::element::body;
 use crate::from_node::{FromNode, each_of, one_of};
 use crate::value::{name_by, optional_name_by, text_by};
@@ -17,7 +15,7 @@ use db_model::{
     Bytes, Database, ElementList, ExecuteCode, Format, Name, NamedBlock, NoMemory, Protocol,
     ShowTemplate, SumStruct, SumTemplate, TableDecl, VarDecl,
 };
-use db_text::{Attribute, Node};
+use db_text::Node;
 use sqlite_items::Items;
 use std::alloc::Global;
 
@@ -59,11 +57,10 @@ impl FromNode for NamedBlock {
     ghost means = { Whole.named_block };
 
     fn from_node(alloc: Global, node: &Node) -> Result<NamedBlock, NoMemory> {
-        let attributes = node.attributes.as_slice();
         Ok(NamedBlock {
             line: node.line,
-            name: name_by(alloc, value_of(attributes, Word::Name))?,
-            longname: text_by(alloc, value_of(attributes, Word::LongName))?,
+            name: name_by(alloc, node, Word::Name)?,
+            longname: text_by(alloc, node, Word::LongName)?,
             body: body(alloc, Kind::NamedBlock, node)?,
         })
     }
@@ -94,9 +91,9 @@ fn parts_in(alloc: Global, nodes: &[Node]) -> Result<Parts, NoMemory>
     ensures { IfOk result (λ p. p ≡ record { execute_code = Whole.one_of word.ExecuteCode Whole.execute_code nodes.now; format = Whole.one_of word.Format Whole.format nodes.now; encapsulation = Whole.one_of word.Encapsulation (Whole.list_of kind.Encapsulation) nodes.now }) }
 {
     Ok(Parts {
-        execute_code: one_of(alloc, Word::ExecuteCode, nodes)?,
-        format: one_of(alloc, Word::Format, nodes)?,
         encapsulation: one_list(alloc, Word::Encapsulation, Kind::Encapsulation, nodes)?,
+        format: one_of(alloc, Word::Format, nodes)?,
+        execute_code: one_of(alloc, Word::ExecuteCode, nodes)?,
     })
 }
 
@@ -108,13 +105,13 @@ struct Heading {
     showsum: Option<Name>,
 }
 
-fn heading_of(alloc: Global, attributes: &[Attribute]) -> Result<Heading, NoMemory>
-    ensures { IfOk result (λ h. h ≡ record { name = name_by (at attributes.now word.Name); longname = text_by (at attributes.now word.LongName); showsum = optional_name_by (at attributes.now word.ShowSum) }) }
+fn heading_of(alloc: Global, node: &Node) -> Result<Heading, NoMemory>
+    ensures { IfOk result (λ h. h ≡ record { name = name_by (Whole.of node.now word.Name); longname = text_by (Whole.of node.now word.LongName); showsum = optional_name_by (Whole.of node.now word.ShowSum) }) }
 {
     Ok(Heading {
-        name: name_by(alloc, value_of(attributes, Word::Name))?,
-        longname: text_by(alloc, value_of(attributes, Word::LongName))?,
-        showsum: optional_name_by(alloc, value_of(attributes, Word::ShowSum))?,
+        name: name_by(alloc, node, Word::Name)?,
+        longname: text_by(alloc, node, Word::LongName)?,
+        showsum: optional_name_by(alloc, node, Word::ShowSum)?,
     })
 }
 
@@ -146,7 +143,7 @@ impl FromNode for Protocol {
     ghost means = { Whole.protocol };
 
     fn from_node(alloc: Global, node: &Node) -> Result<Protocol, NoMemory> {
-        let heading = heading_of(alloc, node.attributes.as_slice())?;
+        let heading = heading_of(alloc, node)?;
         let parts = parts_in(alloc, node.children.as_slice())?;
         Ok(protocol_of(node.line, heading, parts))
     }
@@ -161,14 +158,14 @@ struct Titles {
     date: Option<Bytes>,
 }
 
-fn titles_of(alloc: Global, attributes: &[Attribute]) -> Result<Titles, NoMemory>
-    ensures { IfOk result (λ t. t ≡ record { name = text_by (at attributes.now word.Name); version = text_by (at attributes.now word.Version); creator = text_by (at attributes.now word.Creator); date = text_by (at attributes.now word.Date) }) }
+fn titles_of(alloc: Global, node: &Node) -> Result<Titles, NoMemory>
+    ensures { IfOk result (λ t. t ≡ record { name = text_by (Whole.of node.now word.Name); version = text_by (Whole.of node.now word.Version); creator = text_by (Whole.of node.now word.Creator); date = text_by (Whole.of node.now word.Date) }) }
 {
     Ok(Titles {
-        name: text_by(alloc, value_of(attributes, Word::Name))?,
-        version: text_by(alloc, value_of(attributes, Word::Version))?,
-        creator: text_by(alloc, value_of(attributes, Word::Creator))?,
-        date: text_by(alloc, value_of(attributes, Word::Date))?,
+        name: text_by(alloc, node, Word::Name)?,
+        version: text_by(alloc, node, Word::Version)?,
+        creator: text_by(alloc, node, Word::Creator)?,
+        date: text_by(alloc, node, Word::Date)?,
     })
 }
 
@@ -235,8 +232,8 @@ fn whole_of(
 pub fn database_of(alloc: Global, node: &Node) -> Result<Database, NoMemory>
     ensures { IfOk result (λ db. db ≡ Whole.database_of node.now) }
 {
-    let titles = titles_of(alloc, node.attributes.as_slice())?;
-    let declarations = declared_in(alloc, node.children.as_slice())?;
     let protocols = each_of(alloc, Word::Protocol, node.children.as_slice())?;
+    let titles = titles_of(alloc, node)?;
+    let declarations = declared_in(alloc, node.children.as_slice())?;
     Ok(whole_of(node.line, titles, declarations, protocols))
 }
