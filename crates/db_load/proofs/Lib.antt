@@ -6,6 +6,7 @@ mod Means
 mod NoLiteral
 mod OneAnswer
 mod Parts
+mod Rows
 mod Shaped
 mod Stands
 mod Trees
