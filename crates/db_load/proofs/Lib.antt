@@ -8,6 +8,7 @@ mod OneAnswer
 mod Parts
 mod Rows
 mod Shaped
+mod Spelling
 mod Stands
 mod Trees
 mod ValueForms
