@@ -143,6 +143,7 @@ fn list(alloc: Global, rows: &[Child], nodes: &[Node]) -> Result<Items<Element>,
 
 /// An element that stands under a row.
 #[cycle(conversion)]
+#[tactic(auto, using(crate::proofs::Means::meant_element))]
 fn placed(alloc: Global, row: Option<Child>, node: &Node) -> Result<Option<Element>, NoMemory>
     ensures { IfOk result (λ e. Meaning.items_of e ≡ Meaning.placed row (Meaning.meant node.now)) }
 {
@@ -153,9 +154,8 @@ fn placed(alloc: Global, row: Option<Child>, node: &Node) -> Result<Option<Eleme
 }
 
 #[cycle(conversion)]
-#[tactic(auto, using(crate::proofs::Means::meant_element))]
 fn element(alloc: Global, kind: Kind, node: &Node) -> Result<Element, NoMemory>
-    ensures { IfOk result (λ e. e ≡ (Meaning.meant node.now).element kind) }
+    ensures { IfOk result (λ e. e ≡ Meaning.element_by (Meaning.layer node.now) kind) }
 {
     match kind {
         Kind::Field => field(alloc, node),
