@@ -1,5 +1,5 @@
 -- The rows of a table of elements.
-use Rattle.std.specs.Prelude.{◌≡◌, Bool, true, false, bytes_eq, if◌then◌else◌, is_some, List, [], ◌∷◌, Option, Some, None}
+use Rattle.std.specs.Prelude.{◌≡◌, Bool, true, false, bytes_eq, if◌then◌else◌, is_some, List, [], ◌∷◌, Some}
 use Rattle.std.proofs.Common.{refl}
 use Rattle.db_model.specs.Names.{Text}
 use Rattle.db_load.specs.declared.rule.Child.{Child}

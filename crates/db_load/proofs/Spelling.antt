@@ -1,5 +1,5 @@
 -- The table of the words has each where it is declared.
-use Rattle.std.specs.Prelude.{◌≡◌, ℕ, List, [], map, get_or}
+use Rattle.std.specs.Prelude.{◌≡◌, [], map, get_or}
 use Rattle.std.proofs.Common.{refl}
 use denote.Enum.Declared.{tag_of}
 use Rattle.db_load.specs.contracts.word.Word.{the_type}

@@ -43,7 +43,7 @@ impl FromNode for UpdateValue {
 pub fn keys(alloc: Global, nodes: &[Node]) -> Result<Items<UpdateKey>, NoMemory>
     ensures { IfOk result (λ ks. ks ≡ Meaning.named word.Key Meaning.key_by (map Meaning.meant nodes.now)) }
 {
-    Ok(each_of(alloc, Word::Key, nodes)?)
+    each_of(alloc, Word::Key, nodes)
 }
 
 /// The data among what stands in an update.
@@ -51,5 +51,5 @@ pub fn keys(alloc: Global, nodes: &[Node]) -> Result<Items<UpdateKey>, NoMemory>
 pub fn values(alloc: Global, nodes: &[Node]) -> Result<Items<UpdateValue>, NoMemory>
     ensures { IfOk result (λ vs. vs ≡ Meaning.named word.Data Meaning.value_by (map Meaning.meant nodes.now)) }
 {
-    Ok(each_of(alloc, Word::Data, nodes)?)
+    each_of(alloc, Word::Data, nodes)
 }

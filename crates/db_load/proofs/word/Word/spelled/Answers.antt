@@ -1,5 +1,5 @@
 use Rattle.std.specs.Prelude.{map, get_or, []}
-use Rattle.std.proofs.Common.{◌≡◌, ap, sym, ◌∙◌}
+use Rattle.std.proofs.Common.{ap, sym, ◌∙◌}
 use Rattle.std.proofs.Math.ListN.{get_or-map}
 use Rattle.db_load.specs.declared.word.TheConstants.{SPELLED}
 use Rattle.db_load.proofs.Spelling.{at_its_place}
