@@ -6,7 +6,9 @@ mod Means
 mod NoLiteral
 mod OneAnswer
 mod Parts
+mod Rows
 mod Shaped
+mod Spelling
 mod Stands
 mod Trees
 mod ValueForms

@@ -42,12 +42,6 @@ meant_body n k = ap (λ (m : Meant). m.body k) (meant_out n)
 -- ---- elements of one name, one after another
 
 module _ {A : Type 0} (w : Word) (f : Meant → A) where
-  pub is_named : (n : Node) → bytes_eq (out-Node n).name (spelled w) ≡ true → named w f (meant n ∷ []) ≡ f (meant n) ∷ []
-  is_named n h = ap (λ (b : Bool). if b then f (meant n) ∷ [] else []) (ap (λ t. bytes_eq t (spelled w)) (meant_name n) ∙ h)
-
-  pub is_not_named : (n : Node) → bytes_eq (out-Node n).name (spelled w) ≡ false → named w f (meant n ∷ []) ≡ []
-  is_not_named n h = ap (λ (b : Bool). if b then f (meant n) ∷ [] else []) (ap (λ t. bytes_eq t (spelled w)) (meant_name n) ∙ h)
-
   pub named_first : (b : Bool) (a : A) (rest : List A) → (if b then a ∷ rest else rest) ≡ (if b then a ∷ [] else []) ++ rest
   named_first true a rest = refl
   named_first false a rest = refl

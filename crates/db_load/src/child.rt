@@ -70,15 +70,11 @@ fn place_of(rows: &[Child], name: &[u8]) -> usize
     rows.len()
 }
 
+#[tactic(auto, using(crate::proofs::Rows::row_or_none))]
 fn is_row(rows: &[Child], name: &[u8]) -> bool
     ensures { result ≡ Faults.is_row rows.now name.now }
 {
-    for row in rows {
-        if name == row.word.spelled() {
-            return true;
-        }
-    }
-    false
+    row_of(rows, name).is_some()
 }
 
 /// Whether an element stands behind one of a later row.

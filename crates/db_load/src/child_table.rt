@@ -181,39 +181,36 @@ pub fn children(kind: Kind) -> &'static [Child]
 {
     match kind {
         Kind::Netpdl => &IN_NETPDL,
-        Kind::Variable => &[],
         Kind::Table => &IN_TABLE,
-        Kind::TableKey => &[],
-        Kind::TableColumn => &[],
-        Kind::ShowTemplate => &[],
         Kind::SumStruct => &IN_SUM_STRUCT,
-        Kind::Section => &[],
         Kind::SumTemplate => &IN_SUM_TEMPLATE,
-        Kind::SectionItem => &[],
-        Kind::TextItem => &[],
-        Kind::ProtoFieldItem => &[],
-        Kind::PacketHdrItem => &[],
         Kind::Protocol => &IN_PROTOCOL,
         Kind::ExecuteCode => &IN_EXECUTE_CODE,
         Kind::CodeList => &IN_CODE,
         Kind::Format => &IN_FORMAT,
-        Kind::Fields => &IN_FIELDS,
-        Kind::NamedBlock => &IN_FIELDS,
-        Kind::Block(list) => in_list(list),
-        Kind::IncludeBlock => &[],
-        Kind::Field => &[],
+        Kind::Fields | Kind::NamedBlock => &IN_FIELDS,
+        Kind::Block(list) | Kind::Case(list) | Kind::Branch(list) => in_list(list),
         Kind::Loop => &IN_LOOPED,
-        Kind::LoopCtrl(_) => &[],
         Kind::Switch(list) => in_switch(list),
-        Kind::Case(list) => in_list(list),
-        Kind::Branch(list) => in_list(list),
         Kind::If(list) => in_if(list),
-        Kind::Assign => &[],
         Kind::Update => &IN_UPDATE,
-        Kind::UpdateKey => &[],
-        Kind::UpdateValue => &[],
         Kind::Encapsulation => &IN_ENCAP,
-        Kind::NextProto => &[],
+        Kind::Variable
+        | Kind::TableKey
+        | Kind::TableColumn
+        | Kind::ShowTemplate
+        | Kind::Section
+        | Kind::SectionItem
+        | Kind::TextItem
+        | Kind::ProtoFieldItem
+        | Kind::PacketHdrItem
+        | Kind::IncludeBlock
+        | Kind::Field
+        | Kind::LoopCtrl(_)
+        | Kind::Assign
+        | Kind::UpdateKey
+        | Kind::UpdateValue
+        | Kind::NextProto => &[],
     }
 }
 

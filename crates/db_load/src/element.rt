@@ -1,44 +1,46 @@
-//! Elements from the elements of a text.
+//! Elements from the elements of a text. In each the expression is read last, since whatever fails behind it would
+//! have to let it go again.
 
-ghost use Rattle.std.specs.Prelude.{◌≡◌, ◌++◌, ◌∷◌, [], map, IfOk, OnOk};
+ghost use Rattle.std.specs.Prelude.{◌≡◌, ◌++◌, ◌∷◌, [], map, unwrap_or, IfOk, OnOk};
 ghost use Rattle.db_text.specs.declared.node.Node.{Node, out-Node};
 ghost use Rattle.db_load.specs.Meaning;
+ghost use Rattle.db_load.specs.Values;
+ghost use Rattle.db_load.specs.Whole;
 ghost use Rattle.db_load.specs.declared.kind.Kind.TheVariants as kind;
 ghost use Rattle.db_load.specs.declared.word.Word.TheVariants as word;
 
-use crate::attribute::value_of;
 use crate::child::row_of;
 use crate::update::{keys, values};
 use crate::value::{
     expr_by, is_word, loop_control_by, loop_kind_by, name_by, number_by, optional_name_by,
-    optional_number_by, text_by, token_by, validity_by, variable_name_by,
+    optional_number_by, text_by, token_by, validity_by, value_at, variable_name_by,
 };
 use crate::{Child, Kind, ListKind, Word, children};
 use db_model::{Branch, Case, Element, Expr, FieldForm, NoMemory};
-use db_text::{Attribute, Node};
+use db_text::Node;
 use sqlite_items::Items;
 use std::alloc::Global;
 
 /// The form of a field, by its type.
-fn form(alloc: Global, attributes: &[Attribute]) -> Result<FieldForm, NoMemory>
-    ensures { IfOk result (λ f. f ≡ Meaning.form_by attributes.now) }
+fn form(alloc: Global, node: &Node) -> Result<FieldForm, NoMemory>
+    ensures { IfOk result (λ f. f ≡ Meaning.form_by (out-Node node.now).attributes) }
 {
-    let ty = value_of(attributes, Word::Type);
+    let ty = value_at(node, Word::Type);
     if is_word(ty, Word::Fixed) {
-        let size = number_by(value_of(attributes, Word::Size));
+        let size = number_by(node, Word::Size);
         Ok(FieldForm::Fixed { size })
     } else if is_word(ty, Word::Bit) {
-        let size = number_by(value_of(attributes, Word::Size));
-        let mask = number_by(value_of(attributes, Word::Mask));
+        let size = number_by(node, Word::Size);
+        let mask = number_by(node, Word::Mask);
         Ok(FieldForm::Bit { size, mask })
     } else if is_word(ty, Word::Variable) {
-        let expr = expr_by(alloc, value_of(attributes, Word::Expr))?;
+        let expr = expr_by(alloc, node, Word::Expr)?;
         Ok(FieldForm::Variable { expr })
     } else if is_word(ty, Word::TokenEnded) {
-        let token = token_by(alloc, value_of(attributes, Word::Token))?;
+        let token = token_by(alloc, node, Word::Token)?;
         Ok(FieldForm::TokenEnded { token })
     } else if is_word(ty, Word::Padding) {
-        let align = number_by(value_of(attributes, Word::Align));
+        let align = number_by(node, Word::Align);
         Ok(FieldForm::Padding { align })
     } else {
         Ok(FieldForm::Line)
@@ -48,13 +50,12 @@ fn form(alloc: Global, attributes: &[Attribute]) -> Result<FieldForm, NoMemory>
 fn field(alloc: Global, node: &Node) -> Result<Element, NoMemory>
     ensures { IfOk result (λ e. e ≡ Meaning.field_by (Meaning.layer node.now)) }
 {
-    let attributes = node.attributes.as_slice();
     Ok(Element::Field {
         line: node.line,
-        name: name_by(alloc, value_of(attributes, Word::Name))?,
-        form: form(alloc, attributes)?,
-        longname: text_by(alloc, value_of(attributes, Word::LongName))?,
-        show: optional_name_by(alloc, value_of(attributes, Word::Show))?,
+        name: name_by(alloc, node, Word::Name)?,
+        longname: text_by(alloc, node, Word::LongName)?,
+        show: optional_name_by(alloc, node, Word::Show)?,
+        form: form(alloc, node)?,
     })
 }
 
@@ -63,7 +64,7 @@ fn include(alloc: Global, node: &Node) -> Result<Element, NoMemory>
 {
     Ok(Element::IncludeBlock {
         line: node.line,
-        name: name_by(alloc, value_of(node.attributes.as_slice(), Word::Name))?,
+        name: name_by(alloc, node, Word::Name)?,
     })
 }
 
@@ -72,31 +73,29 @@ fn loop_control(node: &Node) -> Element
 {
     Element::LoopCtrl {
         line: node.line,
-        kind: loop_control_by(value_of(node.attributes.as_slice(), Word::Type)),
+        kind: loop_control_by(node, Word::Type),
     }
 }
 
 fn assign(alloc: Global, node: &Node) -> Result<Element, NoMemory>
     ensures { IfOk result (λ e. e ≡ Meaning.assign_by (Meaning.layer node.now)) }
 {
-    let attributes = node.attributes.as_slice();
     Ok(Element::Assign {
         line: node.line,
-        name: variable_name_by(alloc, value_of(attributes, Word::Name))?,
-        value: expr_by(alloc, value_of(attributes, Word::Value))?,
+        name: variable_name_by(alloc, node, Word::Name)?,
+        value: expr_by(alloc, node, Word::Value)?,
     })
 }
 
 fn update(alloc: Global, node: &Node) -> Result<Element, NoMemory>
     ensures { IfOk result (λ e. e ≡ Meaning.update_by (Meaning.layer node.now)) }
 {
-    let attributes = node.attributes.as_slice();
     Ok(Element::Update {
         line: node.line,
-        table: name_by(alloc, value_of(attributes, Word::Table))?,
-        validity: validity_by(value_of(attributes, Word::Validity)),
-        keep: optional_number_by(value_of(attributes, Word::KeepTime)),
-        hit: optional_number_by(value_of(attributes, Word::HitTime)),
+        table: name_by(alloc, node, Word::Table)?,
+        validity: validity_by(node, Word::Validity),
+        keep: optional_number_by(node, Word::KeepTime),
+        hit: optional_number_by(node, Word::HitTime),
         keys: keys(alloc, node.children.as_slice())?,
         row: values(alloc, node.children.as_slice())?,
     })
@@ -107,7 +106,7 @@ fn next_proto(alloc: Global, node: &Node) -> Result<Element, NoMemory>
 {
     Ok(Element::NextProto {
         line: node.line,
-        proto: expr_by(alloc, value_of(node.attributes.as_slice(), Word::Proto))?,
+        proto: expr_by(alloc, node, Word::Proto)?,
     })
 }
 
@@ -144,6 +143,7 @@ fn list(alloc: Global, rows: &[Child], nodes: &[Node]) -> Result<Items<Element>,
 
 /// An element that stands under a row.
 #[cycle(conversion)]
+#[tactic(auto, using(crate::proofs::Means::meant_element))]
 fn placed(alloc: Global, row: Option<Child>, node: &Node) -> Result<Option<Element>, NoMemory>
     ensures { IfOk result (λ e. Meaning.items_of e ≡ Meaning.placed row (Meaning.meant node.now)) }
 {
@@ -154,9 +154,8 @@ fn placed(alloc: Global, row: Option<Child>, node: &Node) -> Result<Option<Eleme
 }
 
 #[cycle(conversion)]
-#[tactic(auto, using(crate::proofs::Means::meant_element))]
 fn element(alloc: Global, kind: Kind, node: &Node) -> Result<Element, NoMemory>
-    ensures { IfOk result (λ e. e ≡ (Meaning.meant node.now).element kind) }
+    ensures { IfOk result (λ e. e ≡ Meaning.element_by (Meaning.layer node.now) kind) }
 {
     match kind {
         Kind::Field => field(alloc, node),
@@ -176,11 +175,10 @@ fn element(alloc: Global, kind: Kind, node: &Node) -> Result<Element, NoMemory>
 fn block(alloc: Global, of: ListKind, node: &Node) -> Result<Element, NoMemory>
     ensures { IfOk result (λ e. e ≡ Meaning.block_by (kind.Block of) (Meaning.layer node.now)) }
 {
-    let attributes = node.attributes.as_slice();
     Ok(Element::Block {
         line: node.line,
-        name: name_by(alloc, value_of(attributes, Word::Name))?,
-        longname: text_by(alloc, value_of(attributes, Word::LongName))?,
+        name: name_by(alloc, node, Word::Name)?,
+        longname: text_by(alloc, node, Word::LongName)?,
         body: list(alloc, children(Kind::Block(of)), node.children.as_slice())?,
     })
 }
@@ -189,12 +187,11 @@ fn block(alloc: Global, of: ListKind, node: &Node) -> Result<Element, NoMemory>
 fn repetition(alloc: Global, node: &Node) -> Result<Element, NoMemory>
     ensures { IfOk result (λ e. e ≡ Meaning.loop_by (Meaning.layer node.now)) }
 {
-    let attributes = node.attributes.as_slice();
     Ok(Element::Loop {
         line: node.line,
-        kind: loop_kind_by(value_of(attributes, Word::Type)),
-        expr: expr_by(alloc, value_of(attributes, Word::Expr))?,
+        kind: loop_kind_by(node, Word::Type),
         body: list(alloc, children(Kind::Loop), node.children.as_slice())?,
+        expr: expr_by(alloc, node, Word::Expr)?,
     })
 }
 
@@ -205,9 +202,9 @@ fn switch(alloc: Global, of: ListKind, node: &Node) -> Result<Element, NoMemory>
     let nodes = node.children.as_slice();
     Ok(Element::Switch {
         line: node.line,
-        expr: expr_by(alloc, value_of(node.attributes.as_slice(), Word::Expr))?,
         cases: cases(alloc, of, nodes)?,
         otherwise: branch(alloc, of, Word::Default, nodes)?,
+        expr: expr_by(alloc, node, Word::Expr)?,
     })
 }
 
@@ -216,9 +213,9 @@ fn condition(alloc: Global, of: ListKind, node: &Node) -> Result<Element, NoMemo
     ensures { IfOk result (λ e. e ≡ Meaning.condition_by of (Meaning.layer node.now)) }
 {
     let nodes = node.children.as_slice();
-    let expr = expr_by(alloc, value_of(node.attributes.as_slice(), Word::Expr))?;
     let so = branch(alloc, of, Word::IfTrue, nodes)?;
     let otherwise = branch(alloc, of, Word::IfFalse, nodes)?;
+    let expr = expr_by(alloc, node, Word::Expr)?;
     Ok(condition_of(alloc, node.line, expr, so, otherwise))
 }
 
@@ -234,6 +231,20 @@ fn cases(alloc: Global, of: ListKind, nodes: &[Node]) -> Result<Items<Case>, NoM
     Ok(cases)
 }
 
+/// A case of what it says and what stands in it.
+fn case_of(node: &Node, body: Items<Element>) -> Case
+    ensures { result ≡ record { line = (out-Node node.now).line; value = Values.number_by (Whole.of node.now word.Value); maxvalue = unwrap_or (Values.optional_number_by (Whole.of node.now word.MaxValue)) (Values.number_by (Whole.of node.now word.Value)); body = body } }
+{
+    let value = number_by(node, Word::Value);
+    let maxvalue = optional_number_by(node, Word::MaxValue).unwrap_or(value);
+    Case {
+        line: node.line,
+        value,
+        maxvalue,
+        body,
+    }
+}
+
 /// The case that an element is, if it is one.
 #[cycle(conversion)]
 #[tactic(auto, using(crate::proofs::Means::meant_name, crate::proofs::Means::meant_line, crate::proofs::Means::meant_attributes))]
@@ -243,16 +254,8 @@ fn case(alloc: Global, of: ListKind, node: &Node) -> Result<Option<Case>, NoMemo
     if node.name.as_slice() != Word::Case.spelled() {
         return Ok(None);
     }
-    let attributes = node.attributes.as_slice();
-    let value = number_by(value_of(attributes, Word::Value));
-    let maxvalue = optional_number_by(value_of(attributes, Word::MaxValue)).unwrap_or(value);
     let body = body(alloc, Kind::Case(of), node)?;
-    Ok(Some(Case {
-        line: node.line,
-        value,
-        maxvalue,
-        body,
-    }))
+    Ok(Some(case_of(node, body)))
 }
 
 /// The first branch of a name.

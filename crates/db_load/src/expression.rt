@@ -36,7 +36,11 @@ pub fn literal_of(alloc: Global, value: &[u8]) -> Result<Option<Literal>, NoMemo
     ensures { IfOk result (λ r. r ≡ Parsed.literal_of value.now) }
 {
     match parsed(alloc, value)? {
-        Some(e) => literal_in(alloc, &e),
+        Some(e) => {
+            let literal = literal_in(alloc, &e);
+            drop(e);
+            literal
+        }
         None => Ok(None),
     }
 }

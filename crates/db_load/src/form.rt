@@ -1,6 +1,6 @@
 //! Whether values have their forms.
 
-ghost use Rattle.std.specs.Prelude.{◌≡◌, ◌<◌, ◌≤◌, length, IfOk, IsTrue};
+ghost use Rattle.std.specs.Prelude.{◌≡◌, ◌<◌, ◌≤◌, length, is_some, IfOk, IsTrue};
 ghost use Rattle.std.specs.List.{list_all};
 ghost use Rattle.db_model.specs.Forms as model;
 ghost use Rattle.db_load.specs.Forms;
@@ -55,6 +55,13 @@ pub fn is_parsed(form: Form) -> bool
     matches!(form, Form::Expr | Form::Literal | Form::Quoted)
 }
 
+/// Whether something was found, which is let go.
+fn is_found<T: Drop>(found: Option<T>) -> bool
+    ensures { result ≡ is_some found }
+{
+    found.is_some()
+}
+
 /// Whether a value has the form.
 #[tactic(auto, unfolding(crate::specs::Forms::has_form))]
 pub fn has_form(alloc: Global, form: Form, value: &[u8]) -> Result<bool, NoMemory>
@@ -66,11 +73,11 @@ pub fn has_form(alloc: Global, form: Form, value: &[u8]) -> Result<bool, NoMemor
         Form::Name => is_name(value),
         Form::VariableName => is_variable_name(value),
         Form::Number => number_of(value).is_some(),
-        Form::Expr => parsed(alloc, value)?.is_some(),
-        Form::Literal => literal_of(alloc, value)?.is_some(),
-        Form::Quoted => quoted_of(alloc, value)?.is_some(),
+        Form::Expr => is_found(parsed(alloc, value)?),
+        Form::Literal => is_found(literal_of(alloc, value)?),
+        Form::Quoted => is_found(quoted_of(alloc, value)?),
         Form::Separator => is_text(value) && value.len() <= MOST_SEPARATOR as usize,
-        Form::Mask => mask_of(alloc, value)?.is_some(),
+        Form::Mask => is_found(mask_of(alloc, value)?),
         Form::ValueType => is_choice(value, &VALUE_TYPES),
         Form::VariableValidity => is_choice(value, &VARIABLE_VALIDITIES),
         Form::ShowType => is_choice(value, &SHOW_TYPES),

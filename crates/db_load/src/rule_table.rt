@@ -135,33 +135,28 @@ pub fn rules(kind: Kind) -> &'static [Rule]
         Kind::TableKey => &TABLE_KEY,
         Kind::TableColumn => &TABLE_COLUMN,
         Kind::ShowTemplate => &SHOW_TEMPLATE,
-        Kind::SumStruct => &[],
-        Kind::Section => &SECTION,
-        Kind::SumTemplate => &NAMED,
-        Kind::SectionItem => &SECTION,
+        Kind::Section | Kind::SectionItem => &SECTION,
+        Kind::SumTemplate | Kind::ProtoFieldItem | Kind::IncludeBlock => &NAMED,
         Kind::TextItem => &TEXT_ITEM,
-        Kind::ProtoFieldItem => &NAMED,
         Kind::PacketHdrItem => &PACKET_HDR_ITEM,
         Kind::Protocol => &PROTOCOL,
-        Kind::ExecuteCode => &[],
-        Kind::CodeList => &[],
-        Kind::Format => &[],
-        Kind::Fields => &[],
-        Kind::NamedBlock => &BLOCK,
-        Kind::Block(_) => &BLOCK,
-        Kind::IncludeBlock => &NAMED,
+        Kind::NamedBlock | Kind::Block(_) => &BLOCK,
         Kind::Field => &FIELD,
         Kind::Loop => &LOOP,
         Kind::LoopCtrl(_) => &LOOP_CTRL,
-        Kind::Switch(_) => &DECISION,
+        Kind::Switch(_) | Kind::If(_) => &DECISION,
         Kind::Case(_) => &CASE,
-        Kind::Branch(_) => &[],
-        Kind::If(_) => &DECISION,
         Kind::Assign => &ASSIGN,
         Kind::Update => &UPDATE,
         Kind::UpdateKey => &UPDATE_KEY,
         Kind::UpdateValue => &UPDATE_VALUE,
-        Kind::Encapsulation => &[],
         Kind::NextProto => &NEXT_PROTO,
+        Kind::SumStruct
+        | Kind::ExecuteCode
+        | Kind::CodeList
+        | Kind::Format
+        | Kind::Fields
+        | Kind::Branch(_)
+        | Kind::Encapsulation => &[],
     }
 }

@@ -4,7 +4,6 @@ ghost use Rattle.std.specs.Prelude.{◌≡◌, IfOk};
 ghost use Rattle.db_load.specs.Whole;
 
 use crate::Word;
-use crate::attribute::value_of;
 use crate::element::push_some;
 use crate::from_node::{FromNode, each_of};
 use crate::value::{
@@ -19,13 +18,12 @@ impl FromNode for ShowTemplate {
     ghost means = { Whole.show_template };
 
     fn from_node(alloc: Global, node: &Node) -> Result<ShowTemplate, NoMemory> {
-        let attributes = node.attributes.as_slice();
         Ok(ShowTemplate {
             line: node.line,
-            name: name_by(alloc, value_of(attributes, Word::Name))?,
-            show_type: show_type_by(value_of(attributes, Word::ShowType)),
-            group: number_by(value_of(attributes, Word::ShowGrp)),
-            separator: separator_by(alloc, value_of(attributes, Word::ShowSep))?,
+            name: name_by(alloc, node, Word::Name)?,
+            show_type: show_type_by(node, Word::ShowType),
+            group: number_by(node, Word::ShowGrp),
+            separator: separator_by(alloc, node, Word::ShowSep)?,
         })
     }
 }
@@ -36,7 +34,7 @@ impl FromNode for SectionDecl {
     fn from_node(alloc: Global, node: &Node) -> Result<SectionDecl, NoMemory> {
         Ok(SectionDecl {
             line: node.line,
-            name: section_by(alloc, value_of(node.attributes.as_slice(), Word::Name))?,
+            name: section_by(alloc, node, Word::Name)?,
         })
     }
 }
@@ -63,18 +61,17 @@ fn item_of(alloc: Global, node: &Node) -> Result<Option<SumItem>, NoMemory>
     ensures { IfOk result (λ i. i ≡ Whole.item_of node.now) }
 {
     let line = node.line;
-    let attributes = node.attributes.as_slice();
     if is_named(node, Word::Section) {
-        let name = section_by(alloc, value_of(attributes, Word::Name))?;
+        let name = section_by(alloc, node, Word::Name)?;
         Ok(Some(SumItem::Section { line, name }))
     } else if is_named(node, Word::Text) {
-        let value = filled_by(alloc, value_of(attributes, Word::Value))?;
+        let value = filled_by(alloc, node, Word::Value)?;
         Ok(Some(SumItem::Text { line, value }))
     } else if is_named(node, Word::ProtoField) {
-        let name = name_by(alloc, value_of(attributes, Word::Name))?;
+        let name = name_by(alloc, node, Word::Name)?;
         Ok(Some(SumItem::ProtoField { line, name }))
     } else if is_named(node, Word::PacketHdr) {
-        let value = header_part_by(value_of(attributes, Word::Value));
+        let value = header_part_by(node, Word::Value);
         Ok(Some(SumItem::PacketHdr { line, value }))
     } else {
         Ok(None)
@@ -98,7 +95,7 @@ impl FromNode for SumTemplate {
     fn from_node(alloc: Global, node: &Node) -> Result<SumTemplate, NoMemory> {
         Ok(SumTemplate {
             line: node.line,
-            name: name_by(alloc, value_of(node.attributes.as_slice(), Word::Name))?,
+            name: name_by(alloc, node, Word::Name)?,
             items: items_in(alloc, node.children.as_slice())?,
         })
     }
