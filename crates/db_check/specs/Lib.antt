@@ -12,3 +12,4 @@ pub mod Home
 pub mod Graph
 pub mod Uses
 pub mod Order
+pub mod Behind

@@ -1,4 +1,4 @@
-ghost use Rattle.std.specs.Prelude.{◌≡◌, true, None, OnOk, IfErr};
+ghost use Rattle.std.specs.Prelude.{◌≡◌, true, None, IfOk, IfErr};
 ghost use Rattle.db_model.specs.NameIndex.{IsIndex};
 ghost use Rattle.db_model.specs.Objection;
 ghost use Rattle.db_model.specs.Shape.{is_shaped};
@@ -8,15 +8,16 @@ use crate::objection::objection;
 use db_model::{CheckedDb, Database, DbFail, Fault, NameIndex};
 use std::alloc::Global;
 
-/// Whether no fault stands in a database.
-fn judged(alloc: Global, db: &Database, names: &NameIndex) -> Result<(), DbFail>
-    requires { IsIndex db.now names.now }
-    ensures accepted { OnOk result (Objection.objection db.now ≡ None) }
+/// The names of a database in which no fault stands.
+fn judged(alloc: Global, db: &Database) -> Result<NameIndex, DbFail>
+    ensures names { IfOk result (λ names. IsIndex db.now names) }
+    ensures accepted { IfOk result (λ names. Objection.objection db.now ≡ None) }
     ensures refused { IfErr result (λ e. Objects db.now e) }
 {
-    match objection(alloc, db, names)? {
+    let names = NameIndex::of(alloc, db)?;
+    match objection(alloc, db, &names)? {
         Some(Fault { line, code }) => Err(DbFail::Fault { line, code }),
-        None => Ok(()),
+        None => Ok(names),
     }
 }
 
@@ -25,9 +26,8 @@ pub fn check(alloc: Global, db: Database) -> Result<CheckedDb, DbFail>
     requires { is_shaped db ≡ true }
     ensures { Judges db result }
 {
-    let names = NameIndex::of(alloc, &db)?;
-    match judged(alloc, &db, &names) {
-        Ok(()) => Ok(CheckedDb::seal(db, names)),
+    match judged(alloc, &db) {
+        Ok(names) => Ok(CheckedDb::seal(db, names)),
         Err(fail) => Err(fail),
     }
 }
