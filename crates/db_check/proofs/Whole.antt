@@ -7,7 +7,7 @@ use Rattle.db_model.specs.declared.fault.Fault.{Fault}
 use Rattle.db_check.specs.declared.kind.Kind.TheVariants as kind
 use Rattle.db_model.specs.declared.limits.TheConstants.{MOST_PROTOCOLS, MOST_VARIABLES, MOST_TABLES, MOST_SHOW_TEMPLATES, MOST_SUM_TEMPLATES}
 use Rattle.db_model.specs.BlockFaults.{fault_45, fault_46}
-use Rattle.db_model.specs.LeastFault.{earlier, least}
+use Rattle.db_model.specs.LeastFault.{earlier}
 use Rattle.db_model.specs.Lines.{Lines, over, over_option, at_line, lines_in}
 use Rattle.db_model.specs.NameFaults.{payload_name, repeated, repeated_in_table, repeated_blocks, repeated_sections, fault_40, fault_41, protocol_41, block_names}
 use Rattle.db_model.specs.Special.{special_names}
@@ -18,11 +18,9 @@ use Rattle.db_model.specs.Objection.{coded, faults, objection}
 use Rattle.db_model.specs.TypeFaults.{fault_42, fault_47, own_42, own_47}
 use Rattle.db_model.specs.Typing.{is_protocol}
 use Rattle.db_model.proofs.LeastFault.{least_append}
-use Rattle.db_check.specs.Behind.{behind_types}
 use Rattle.db_check.specs.Entries.{counts_43}
 use Rattle.db_check.specs.First.{first}
 use Rattle.db_check.specs.Known.{protocol_lines, lacks_summary}
-use Rattle.db_check.specs.Repeats.{inner_40}
 use Rattle.db_check.specs.Rows.{rows_in}
 use Rattle.db_check.specs.Uses.{literal_lines, type_lines, template_lines}
 use Rattle.db_check.proofs.FirstFault.{first_append}
@@ -76,27 +74,23 @@ module _ (db : Database) where
   unfolding fault_47
   all_47 = ap (first 47) (sym (over_same (protocol_lines db kind.Tables) (λ (p : Protocol). lines_in (own_47 db) p) one_47 db.protocols))
 
-  pub behind_is : least (behind_types db) ≡ earlier (first 43 (fault_43 db)) (earlier (first 44 (fault_44 db)) (earlier (first 45 (fault_45 db)) (earlier (first 46 (fault_46 db)) (first 47 (fault_47 db)))))
-  unfolding behind_types
-  behind_is =
+  pub objection_is : objection db ≡ earlier (first 40 (fault_40 db)) (earlier (first 41 (fault_41 db)) (earlier (first 42 (fault_42 db)) (earlier (first 43 (fault_43 db)) (earlier (first 44 (fault_44 db)) (earlier (first 45 (fault_45 db)) (earlier (first 46 (fault_46 db)) (first 47 (fault_47 db))))))))
+  unfolding objection faults
+  objection_is =
       let l47 : List Fault = coded 47 (fault_47 db) in
       let l46 : List Fault = coded 46 (fault_46 db) ++ l47 in
       let l45 : List Fault = coded 45 (fault_45 db) ++ l46 in
       let l44 : List Fault = coded 44 (fault_44 db) ++ l45 in
-      least_append (coded 43 (fault_43 db)) l44
-      ∙ ap (earlier (first 43 (fault_43 db))) (least_append (coded 44 (fault_44 db)) l45
-      ∙ ap (earlier (first 44 (fault_44 db))) (least_append (coded 45 (fault_45 db)) l46
-      ∙ ap (earlier (first 45 (fault_45 db))) (least_append (coded 46 (fault_46 db)) l47)))
-
-  pub objection_is : objection db ≡ earlier (first 40 (fault_40 db)) (earlier (first 41 (fault_41 db)) (earlier (first 42 (fault_42 db)) (least (behind_types db))))
-  unfolding objection faults behind_types
-  objection_is =
-      let l43 : List Fault = behind_types db in
+      let l43 : List Fault = coded 43 (fault_43 db) ++ l44 in
       let l42 : List Fault = coded 42 (fault_42 db) ++ l43 in
       let l41 : List Fault = coded 41 (fault_41 db) ++ l42 in
       least_append (coded 40 (fault_40 db)) l41
       ∙ ap (earlier (first 40 (fault_40 db))) (least_append (coded 41 (fault_41 db)) l42
-      ∙ ap (earlier (first 41 (fault_41 db))) (least_append (coded 42 (fault_42 db)) l43))
+      ∙ ap (earlier (first 41 (fault_41 db))) (least_append (coded 42 (fault_42 db)) l43
+      ∙ ap (earlier (first 42 (fault_42 db))) (least_append (coded 43 (fault_43 db)) l44
+      ∙ ap (earlier (first 43 (fault_43 db))) (least_append (coded 44 (fault_44 db)) l45
+      ∙ ap (earlier (first 44 (fault_44 db))) (least_append (coded 45 (fault_45 db)) l46
+      ∙ ap (earlier (first 45 (fault_45 db))) (least_append (coded 46 (fault_46 db)) l47))))))
 
   pub counts_are : first 43 (counts_43 db) ≡ earlier (first 43 (too_many MOST_PROTOCOLS (map (λ d. d.line) db.protocols))) (earlier (first 43 (too_many MOST_VARIABLES (map (λ d. d.line) db.variables))) (earlier (first 43 (too_many MOST_TABLES (map (λ d. d.line) db.tables))) (earlier (first 43 (too_many MOST_SHOW_TEMPLATES (map (λ d. d.line) db.show_templates))) (first 43 (too_many MOST_SUM_TEMPLATES (map (λ d. d.line) db.sum_templates))))))
   counts_are =
@@ -107,20 +101,15 @@ module _ (db : Database) where
       let s : Lines = too_many MOST_SUM_TEMPLATES (map (λ d. d.line) db.sum_templates) in
       first_append 43 p (v ++ (t ++ (h ++ s))) ∙ ap (earlier (first 43 p)) (first_append 43 v (t ++ (h ++ s)) ∙ ap (earlier (first 43 v)) (first_append 43 t (h ++ s) ∙ ap (earlier (first 43 t)) (first_append 43 h s)))
 
-  pub all_40 : first 40 (fault_40 db) ≡ earlier (first 40 (repeated (payload_name ∷ []) (map (λ d. (d.name, d.line)) db.protocols))) (earlier (first 40 (repeated special_names (map (λ d. (d.name, d.line)) db.variables))) (earlier (first 40 (repeated [] (map (λ d. (d.name, d.line)) db.tables))) (earlier (first 40 (over repeated_in_table db.tables)) (first 40 (inner_40 db)))))
+  pub all_40 : first 40 (fault_40 db) ≡ earlier (first 40 (repeated (payload_name ∷ []) (map (λ d. (d.name, d.line)) db.protocols))) (earlier (first 40 (repeated special_names (map (λ d. (d.name, d.line)) db.variables))) (earlier (first 40 (repeated [] (map (λ d. (d.name, d.line)) db.tables))) (earlier (first 40 (over repeated_in_table db.tables)) (earlier (first 40 (repeated [] (map (λ d. (d.name, d.line)) db.show_templates))) (earlier (first 40 (repeated [] (map (λ d. (d.name, d.line)) db.sum_templates))) (earlier (first 40 (over_option repeated_sections db.sum_struct)) (first 40 (over repeated_blocks db.protocols))))))))
   unfolding fault_40
   all_40 =
       let p : Lines = repeated (payload_name ∷ []) (map (λ d. (d.name, d.line)) db.protocols) in
       let v : Lines = repeated special_names (map (λ d. (d.name, d.line)) db.variables) in
       let t : Lines = repeated [] (map (λ d. (d.name, d.line)) db.tables) in
       let c : Lines = over repeated_in_table db.tables in
-      let r : Lines = inner_40 db in
-      first_append 40 p (v ++ (t ++ (c ++ r))) ∙ ap (earlier (first 40 p)) (first_append 40 v (t ++ (c ++ r)) ∙ ap (earlier (first 40 v)) (first_append 40 t (c ++ r) ∙ ap (earlier (first 40 t)) (first_append 40 c r)))
-
-  pub inner_are : first 40 (inner_40 db) ≡ earlier (first 40 (repeated [] (map (λ d. (d.name, d.line)) db.show_templates))) (earlier (first 40 (repeated [] (map (λ d. (d.name, d.line)) db.sum_templates))) (earlier (first 40 (over_option repeated_sections db.sum_struct)) (first 40 (over repeated_blocks db.protocols))))
-  inner_are =
       let h : Lines = repeated [] (map (λ d. (d.name, d.line)) db.show_templates) in
       let s : Lines = repeated [] (map (λ d. (d.name, d.line)) db.sum_templates) in
       let n : Lines = over_option repeated_sections db.sum_struct in
       let b : Lines = over repeated_blocks db.protocols in
-      first_append 40 h (s ++ (n ++ b)) ∙ ap (earlier (first 40 h)) (first_append 40 s (n ++ b) ∙ ap (earlier (first 40 s)) (first_append 40 n b))
+      first_append 40 p (v ++ (t ++ (c ++ (h ++ (s ++ (n ++ b)))))) ∙ ap (earlier (first 40 p)) (first_append 40 v (t ++ (c ++ (h ++ (s ++ (n ++ b))))) ∙ ap (earlier (first 40 v)) (first_append 40 t (c ++ (h ++ (s ++ (n ++ b)))) ∙ ap (earlier (first 40 t)) (first_append 40 c (h ++ (s ++ (n ++ b))) ∙ ap (earlier (first 40 c)) (first_append 40 h (s ++ (n ++ b)) ∙ ap (earlier (first 40 h)) (first_append 40 s (n ++ b) ∙ ap (earlier (first 40 s)) (first_append 40 n b))))))

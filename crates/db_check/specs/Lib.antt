@@ -12,4 +12,3 @@ pub mod Home
 pub mod Graph
 pub mod Uses
 pub mod Order
-pub mod Behind

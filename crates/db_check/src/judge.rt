@@ -1,4 +1,4 @@
-ghost use Rattle.std.specs.Prelude.{◌≡◌, true, None, IfOk, IfErr};
+ghost use Rattle.std.specs.Prelude.{◌≡◌, true, None, OnOk, IfOk, IfErr};
 ghost use Rattle.db_model.specs.NameIndex.{IsIndex};
 ghost use Rattle.db_model.specs.Objection;
 ghost use Rattle.db_model.specs.Shape.{is_shaped};
@@ -8,17 +8,27 @@ use crate::objection::objection;
 use db_model::{CheckedDb, Database, DbFail, Fault, NameIndex};
 use std::alloc::Global;
 
+/// Whether no fault stands in a database.
+fn judged(alloc: Global, db: &Database, names: &NameIndex) -> Result<(), DbFail>
+    requires { IsIndex db.now names.now }
+    ensures accepted { OnOk result (Objection.objection db.now ≡ None) }
+    ensures refused { IfErr result (λ e. Objects db.now e) }
+{
+    match objection(alloc, db, names)? {
+        Some(Fault { line, code }) => Err(DbFail::Fault { line, code }),
+        None => Ok(()),
+    }
+}
+
 /// The names of a database in which no fault stands.
-fn judged(alloc: Global, db: &Database) -> Result<NameIndex, DbFail>
+fn names_of(alloc: Global, db: &Database) -> Result<NameIndex, DbFail>
+    ensures accepted { OnOk result (Objection.objection db.now ≡ None) }
     ensures names { IfOk result (λ names. IsIndex db.now names) }
-    ensures accepted { IfOk result (λ names. Objection.objection db.now ≡ None) }
     ensures refused { IfErr result (λ e. Objects db.now e) }
 {
     let names = NameIndex::of(alloc, db)?;
-    match objection(alloc, db, &names)? {
-        Some(Fault { line, code }) => Err(DbFail::Fault { line, code }),
-        None => Ok(names),
-    }
+    judged(alloc, db, &names)?;
+    Ok(names)
 }
 
 /// The same database, checked: it takes the names that it needs later with it. A fault has a code from 40 to 47.
@@ -26,7 +36,7 @@ pub fn check(alloc: Global, db: Database) -> Result<CheckedDb, DbFail>
     requires { is_shaped db ≡ true }
     ensures { Judges db result }
 {
-    match judged(alloc, &db) {
+    match names_of(alloc, &db) {
         Ok(names) => Ok(CheckedDb::seal(db, names)),
         Err(fail) => Err(fail),
     }

@@ -7,8 +7,6 @@ ghost use Rattle.db_model.specs.NameIndex.{IsIndex};
 ghost use Rattle.db_model.specs.NumberFaults.{fault_43, fault_44};
 ghost use Rattle.db_model.specs.Objection;
 ghost use Rattle.db_model.specs.TypeFaults.{fault_42, fault_47};
-ghost use Rattle.db_model.specs.LeastFault.{least};
-ghost use Rattle.db_check.specs.Behind.{behind_types};
 ghost use Rattle.db_check.specs.First.{first};
 ghost use Rattle.db_check.specs.Entries.{counts_43};
 ghost use Rattle.db_check.specs.Known.{IsKnown};
@@ -95,20 +93,6 @@ fn of_tables(alloc: Global, known: &Known) -> Result<Option<Fault>, NoMemory>
     known.in_protocols(alloc, Kind::Tables)
 }
 
-/// The fault of the least line, and there of the least code, of all from the numbers on.
-#[tactic(auto, using(crate::proofs::Whole::behind_is))]
-fn of_lists(alloc: Global, known: &Known) -> Result<Option<Fault>, NoMemory>
-    requires { IsKnown known.now }
-    ensures { IfOk result (λ f. f ≡ least (behind_types known.now.database.now)) }
-{
-    let numbers = of_numbers(alloc, known)?;
-    let blocks = nested::of_protocols(alloc, known)?;
-    let tables = of_tables(alloc, known)?;
-    let included = Fault::earlier(blocks.cycles, Fault::earlier(blocks.depths, tables));
-    let rows = Fault::earlier(of_rows(known.database), included);
-    Ok(Fault::earlier(numbers, rows))
-}
-
 /// The least of all faults.
 #[tactic(auto, using(crate::proofs::Whole::objection_is))]
 fn of_all(alloc: Global, known: &Known) -> Result<Option<Fault>, NoMemory>
@@ -118,7 +102,12 @@ fn of_all(alloc: Global, known: &Known) -> Result<Option<Fault>, NoMemory>
     let again = repeats::in_database(alloc, known.database)?;
     let names = of_names(alloc, known)?;
     let types = of_types(alloc, known)?;
-    let lists = of_lists(alloc, known)?;
+    let numbers = of_numbers(alloc, known)?;
+    let rows = of_rows(known.database);
+    let blocks = nested::of_protocols(alloc, known)?;
+    let tables = of_tables(alloc, known)?;
+    let included = Fault::earlier(blocks.cycles, Fault::earlier(blocks.depths, tables));
+    let lists = Fault::earlier(numbers, Fault::earlier(rows, included));
     Ok(Fault::earlier(again, Fault::earlier(names, Fault::earlier(types, lists))))
 }
 

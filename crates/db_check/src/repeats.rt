@@ -6,7 +6,6 @@ ghost use Rattle.db_model.specs.NameFaults.{repeated, repeated_in_table, repeate
 ghost use Rattle.db_model.specs.Special.{special_names};
 ghost use Rattle.db_model.specs.Typing.{is_among};
 ghost use Rattle.db_check.specs.First.{first};
-ghost use Rattle.db_check.specs.Repeats.{inner_40};
 
 use crate::first::at_line;
 use crate::located::Located;
@@ -141,18 +140,6 @@ fn in_protocols(alloc: Global, protocols: &[Protocol]) -> Result<Option<Fault>, 
     Ok(found)
 }
 
-/// The templates, the sections of the summary and the named blocks.
-fn in_inner(alloc: Global, database: &Database) -> Result<Option<Fault>, NoMemory>
-    ensures { IfOk result (λ f. f ≡ first 40 (inner_40 database.now)) }
-{
-    let shows = of_all(alloc, database.show_templates.as_slice())?;
-    let sums = of_all(alloc, database.sum_templates.as_slice())?;
-    let sections = in_summary(alloc, &database.sum_struct)?;
-    let blocks = in_protocols(alloc, database.protocols.as_slice())?;
-    let inner = Fault::earlier(sums, Fault::earlier(sections, blocks));
-    Ok(Fault::earlier(shows, inner))
-}
-
 /// The least fault of a name that is declared before, or may not be declared.
 pub fn in_database(alloc: Global, database: &Database) -> Result<Option<Fault>, NoMemory>
     ensures { IfOk result (λ f. f ≡ first 40 (fault_40 database.now)) }
@@ -161,7 +148,12 @@ pub fn in_database(alloc: Global, database: &Database) -> Result<Option<Fault>, 
     let variables = of_variables(alloc, database.variables.as_slice())?;
     let tables = of_all(alloc, database.tables.as_slice())?;
     let columns = in_tables(alloc, database.tables.as_slice())?;
-    let inner = in_inner(alloc, database)?;
-    let in_tables = Fault::earlier(tables, Fault::earlier(columns, inner));
+    let shows = of_all(alloc, database.show_templates.as_slice())?;
+    let sums = of_all(alloc, database.sum_templates.as_slice())?;
+    let sections = in_summary(alloc, &database.sum_struct)?;
+    let blocks = in_protocols(alloc, database.protocols.as_slice())?;
+    let inner = Fault::earlier(sums, Fault::earlier(sections, blocks));
+    let templates = Fault::earlier(shows, inner);
+    let in_tables = Fault::earlier(tables, Fault::earlier(columns, templates));
     Ok(Fault::earlier(protocols, Fault::earlier(variables, in_tables)))
 }
