@@ -49,11 +49,9 @@ fn of_element(element: &Element, heights: &[u32], home: &Home) -> u32
     ensures { result ≡ height_of (height_at (block_names home.now.protocol.now) heights.now) element.now }
 {
     match element {
-        Element::Field { .. } => 0,
         Element::Block { body, .. } => raised(of_list(body.as_slice(), heights, home)),
         Element::IncludeBlock { name, .. } => of_name(name.as_slice(), heights, home),
         Element::Loop { body, .. } => raised(of_list(body.as_slice(), heights, home)),
-        Element::LoopCtrl { .. } => 0,
         Element::Switch {
             cases,
             otherwise,
@@ -70,9 +68,7 @@ fn of_element(element: &Element, heights: &[u32], home: &Home) -> u32
             of_list(if_true.as_slice(), heights, home),
             of_branch(if_false, heights, home),
         ),
-        Element::Assign { .. } => 0,
-        Element::Update { .. } => 0,
-        Element::NextProto { .. } => 0,
+        _ => 0,
     }
 }
 
