@@ -11,3 +11,5 @@ pub mod Included
 pub mod Declarations
 pub mod Acyclic
 pub mod Ordered
+pub mod Filled
+pub mod Tallest

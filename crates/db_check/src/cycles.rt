@@ -45,11 +45,9 @@ fn add_element(
     ensures { OnOk result (included.new ≡ included.old ++ numbers (block_names home.now.protocol.now) (includes_of element.now)) }
 {
     match element {
-        Element::Field { .. } => Ok(()),
         Element::Block { body, .. } => add_list(body.as_slice(), home, included),
         Element::IncludeBlock { name, .. } => included.push(home.block_at(name.as_slice())),
         Element::Loop { body, .. } => add_list(body.as_slice(), home, included),
-        Element::LoopCtrl { .. } => Ok(()),
         Element::Switch {
             cases,
             otherwise,
@@ -66,9 +64,7 @@ fn add_element(
             add_list(if_true.as_slice(), home, included)?;
             add_branch(if_false, home, included)
         }
-        Element::Assign { .. } => Ok(()),
-        Element::Update { .. } => Ok(()),
-        Element::NextProto { .. } => Ok(()),
+        _ => Ok(()),
     }
 }
 

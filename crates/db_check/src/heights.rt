@@ -49,11 +49,9 @@ fn of_element(element: &Element, heights: &[u32], home: &Home) -> u32
     ensures { result ≡ height_of (height_at (block_names home.now.protocol.now) heights.now) element.now }
 {
     match element {
-        Element::Field { .. } => 0,
         Element::Block { body, .. } => raised(of_list(body.as_slice(), heights, home)),
         Element::IncludeBlock { name, .. } => of_name(name.as_slice(), heights, home),
         Element::Loop { body, .. } => raised(of_list(body.as_slice(), heights, home)),
-        Element::LoopCtrl { .. } => 0,
         Element::Switch {
             cases,
             otherwise,
@@ -70,9 +68,7 @@ fn of_element(element: &Element, heights: &[u32], home: &Home) -> u32
             of_list(if_true.as_slice(), heights, home),
             of_branch(if_false, heights, home),
         ),
-        Element::Assign { .. } => 0,
-        Element::Update { .. } => 0,
-        Element::NextProto { .. } => 0,
+        _ => 0,
     }
 }
 
@@ -115,11 +111,8 @@ fn of_branch(branch: &Option<Branch>, heights: &[u32], home: &Home) -> u32
 fn no_heights(alloc: Global, home: &Home) -> Result<Sequence<u32>, NoMemory>
     ensures { IfOk result (λ heights. heights ≡ map (λ (b : NamedBlock). 0) (blocks_in home.now.protocol.now.format)) }
 {
-    let mut heights = Sequence::new(alloc);
-    for _block in parts::named_blocks(home.protocol) {
-        heights.push(0)?;
-    }
-    Ok(heights)
+    let count = parts::named_blocks(home.protocol).len();
+    Ok(Sequence::from_vec(vec![in alloc; 0u32; count]?))
 }
 
 /// One round: the heights of the named blocks by those of the round before.

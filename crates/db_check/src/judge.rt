@@ -1,4 +1,4 @@
-ghost use Rattle.std.specs.Prelude.{◌≡◌, true, None, OnOk, IfErr};
+ghost use Rattle.std.specs.Prelude.{◌≡◌, true, None, OnOk, IfOk, IfErr};
 ghost use Rattle.db_model.specs.NameIndex.{IsIndex};
 ghost use Rattle.db_model.specs.Objection;
 ghost use Rattle.db_model.specs.Shape.{is_shaped};
@@ -20,14 +20,24 @@ fn judged(alloc: Global, db: &Database, names: &NameIndex) -> Result<(), DbFail>
     }
 }
 
+/// The names of a database in which no fault stands.
+fn names_of(alloc: Global, db: &Database) -> Result<NameIndex, DbFail>
+    ensures accepted { OnOk result (Objection.objection db.now ≡ None) }
+    ensures names { IfOk result (λ names. IsIndex db.now names) }
+    ensures refused { IfErr result (λ e. Objects db.now e) }
+{
+    let names = NameIndex::of(alloc, db)?;
+    judged(alloc, db, &names)?;
+    Ok(names)
+}
+
 /// The same database, checked: it takes the names that it needs later with it. A fault has a code from 40 to 47.
 pub fn check(alloc: Global, db: Database) -> Result<CheckedDb, DbFail>
     requires { is_shaped db ≡ true }
     ensures { Judges db result }
 {
-    let names = NameIndex::of(alloc, &db)?;
-    match judged(alloc, &db, &names) {
-        Ok(()) => Ok(CheckedDb::seal(db, names)),
+    match names_of(alloc, &db) {
+        Ok(names) => Ok(CheckedDb::seal(db, names)),
         Err(fail) => Err(fail),
     }
 }

@@ -61,9 +61,7 @@ impl<'a> Known<'a> {
     {
         match kind {
             Kind::Names => self.lacks_summary(showsum),
-            Kind::Types => false,
-            Kind::Numbers => false,
-            Kind::Tables => false,
+            _ => false,
         }
     }
 

@@ -42,10 +42,9 @@ pub fn form_is_outside(form: &FieldForm) -> bool
         FieldForm::Bit { size, mask } => {
             is_outside(1, MOST_BIT_SIZE, *size) || *mask == 0 || is_too_wide(*size, *mask)
         }
-        FieldForm::Variable { .. } => false,
         FieldForm::TokenEnded { token } => is_long(token.as_slice()),
-        FieldForm::Line => false,
         FieldForm::Padding { align } => is_outside(LEAST_ALIGNMENT, MOST_ALIGNMENT, *align),
+        _ => false,
     }
 }
 

@@ -93,8 +93,25 @@ fn of_tables(alloc: Global, known: &Known) -> Result<Option<Fault>, NoMemory>
     known.in_protocols(alloc, Kind::Tables)
 }
 
-/// The fault of the least line, and there of the least code, of all that stand in a database.
+/// The least of all faults.
 #[tactic(auto, using(crate::proofs::Whole::objection_is))]
+fn of_all(alloc: Global, known: &Known) -> Result<Option<Fault>, NoMemory>
+    requires { IsKnown known.now }
+    ensures { IfOk result (λ f. f ≡ Objection.objection known.now.database.now) }
+{
+    let again = repeats::in_database(alloc, known.database)?;
+    let names = of_names(alloc, known)?;
+    let types = of_types(alloc, known)?;
+    let numbers = of_numbers(alloc, known)?;
+    let rows = of_rows(known.database);
+    let blocks = nested::of_protocols(alloc, known)?;
+    let tables = of_tables(alloc, known)?;
+    let included = Fault::earlier(blocks.cycles, Fault::earlier(blocks.depths, tables));
+    let lists = Fault::earlier(numbers, Fault::earlier(rows, included));
+    Ok(Fault::earlier(again, Fault::earlier(names, Fault::earlier(types, lists))))
+}
+
+/// The fault of the least line, and there of the least code, of all that stand in a database.
 pub fn objection(
     alloc: Global,
     database: &Database,
@@ -111,14 +128,5 @@ pub fn objection(
         shows: &shows,
         sums: &sums,
     };
-    let again = repeats::in_database(alloc, database)?;
-    let names = of_names(alloc, &known)?;
-    let types = of_types(alloc, &known)?;
-    let numbers = of_numbers(alloc, &known)?;
-    let rows = of_rows(database);
-    let blocks = nested::of_protocols(alloc, &known)?;
-    let tables = of_tables(alloc, &known)?;
-    let included = Fault::earlier(blocks.cycles, Fault::earlier(blocks.depths, tables));
-    let lists = Fault::earlier(numbers, Fault::earlier(rows, included));
-    Ok(Fault::earlier(again, Fault::earlier(names, Fault::earlier(types, lists))))
+    of_all(alloc, &known)
 }

@@ -43,9 +43,8 @@ fn isnt_wanted(wanted: Option<Ty>, ty: Result<Ty, TypeFault>) -> bool
 {
     match ty {
         Ok(ty) => is_other(wanted, ty),
-        Err(TypeFault::Undeclared) => false,
         Err(TypeFault::Mistyped) => true,
-        Err(TypeFault::Arity) => false,
+        Err(_) => false,
     }
 }
 
@@ -67,12 +66,8 @@ fn form_fails(kind: Kind, form: &FieldForm, around: &Around) -> bool
     ensures { result ≡ Own.form_fails around.now.scope.database.now around.now.scope.fields.now (block_names around.now.protocol.now) kind form.now }
 {
     match form {
-        FieldForm::Fixed { .. } => false,
-        FieldForm::Bit { .. } => false,
         FieldForm::Variable { expr } => fails(kind, Some(Ty::Num), expr, around),
-        FieldForm::TokenEnded { .. } => false,
-        FieldForm::Line => false,
-        FieldForm::Padding { .. } => false,
+        _ => false,
     }
 }
 
@@ -92,9 +87,8 @@ fn field_fails(kind: Kind, form: &FieldForm, show: &Option<Name>, around: &Aroun
 {
     match kind {
         Kind::Names => form_fails(kind, form, around) || lacks_template(show, around),
-        Kind::Types => form_fails(kind, form, around),
         Kind::Numbers => form_is_outside(form),
-        Kind::Tables => form_fails(kind, form, around),
+        _ => form_fails(kind, form, around),
     }
 }
 
@@ -104,9 +98,7 @@ fn include_fails(kind: Kind, name: &Name, around: &Around) -> bool
 {
     match kind {
         Kind::Names => !around.has_block(name.as_slice()),
-        Kind::Types => false,
-        Kind::Numbers => false,
-        Kind::Tables => false,
+        _ => false,
     }
 }
 
@@ -204,10 +196,8 @@ fn case_fails(kind: Kind, case: &Case) -> bool
     ensures { result ≡ Own.case_fails kind case.now.value case.now.maxvalue }
 {
     match kind {
-        Kind::Names => false,
-        Kind::Types => false,
         Kind::Numbers => case.maxvalue < case.value,
-        Kind::Tables => false,
+        _ => false,
     }
 }
 
@@ -272,12 +262,10 @@ pub fn own(kind: Kind, element: &Element, around: &Around) -> Option<Fault>
             show,
             ..
         } => at_line(*line, kind.code(), field_fails(kind, form, show, around)),
-        Element::Block { .. } => None,
         Element::IncludeBlock { line, name } => {
             at_line(*line, kind.code(), include_fails(kind, name, around))
         }
         Element::Loop { line, expr, .. } => of_number(kind, *line, expr, around),
-        Element::LoopCtrl { .. } => None,
         Element::Switch {
             line,
             expr,
@@ -312,6 +300,7 @@ pub fn own(kind: Kind, element: &Element, around: &Around) -> Option<Fault>
             let wrong = fails(kind, Some(Ty::Proto), proto, around);
             at_line(*line, kind.code(), wrong)
         }
+        _ => None,
     }
 }
 

@@ -15,12 +15,8 @@ fn bit_by(form: &FieldForm) -> Option<(u32, u32)>
     ensures { result ≡ NumberFaults.bit_by form.now }
 {
     match form {
-        FieldForm::Fixed { .. } => None,
         FieldForm::Bit { size, mask } => Some((*size, *mask)),
-        FieldForm::Variable { .. } => None,
-        FieldForm::TokenEnded { .. } => None,
-        FieldForm::Line => None,
-        FieldForm::Padding { .. } => None,
+        _ => None,
     }
 }
 
@@ -29,15 +25,7 @@ fn bit_of(element: &Element) -> Option<(u32, u32)>
 {
     match element {
         Element::Field { form, .. } => bit_by(form),
-        Element::Block { .. } => None,
-        Element::IncludeBlock { .. } => None,
-        Element::Loop { .. } => None,
-        Element::LoopCtrl { .. } => None,
-        Element::Switch { .. } => None,
-        Element::If { .. } => None,
-        Element::Assign { .. } => None,
-        Element::Update { .. } => None,
-        Element::NextProto { .. } => None,
+        _ => None,
     }
 }
 
@@ -45,16 +33,16 @@ fn line_of(element: &Element) -> u32
     ensures { result ≡ (in_row_of element.now).line }
 {
     match element {
-        Element::Field { line, .. } => *line,
-        Element::Block { line, .. } => *line,
-        Element::IncludeBlock { line, .. } => *line,
-        Element::Loop { line, .. } => *line,
-        Element::LoopCtrl { line, .. } => *line,
-        Element::Switch { line, .. } => *line,
-        Element::If { line, .. } => *line,
-        Element::Assign { line, .. } => *line,
-        Element::Update { line, .. } => *line,
-        Element::NextProto { line, .. } => *line,
+        Element::Field { line, .. }
+        | Element::Block { line, .. }
+        | Element::IncludeBlock { line, .. }
+        | Element::Loop { line, .. }
+        | Element::LoopCtrl { line, .. }
+        | Element::Switch { line, .. }
+        | Element::If { line, .. }
+        | Element::Assign { line, .. }
+        | Element::Update { line, .. }
+        | Element::NextProto { line, .. } => *line,
     }
 }
 
@@ -106,11 +94,8 @@ fn within(element: &Element) -> Option<Fault>
     ensures { result ≡ first 44 (in_row_of element.now).within }
 {
     match element {
-        Element::Field { .. } => None,
         Element::Block { body, .. } => of_list(body.as_slice()),
-        Element::IncludeBlock { .. } => None,
         Element::Loop { body, .. } => of_list(body.as_slice()),
-        Element::LoopCtrl { .. } => None,
         Element::Switch {
             cases,
             otherwise,
@@ -121,9 +106,7 @@ fn within(element: &Element) -> Option<Fault>
             if_false,
             ..
         } => Fault::earlier(of_list(if_true.as_slice()), of_branch(if_false)),
-        Element::Assign { .. } => None,
-        Element::Update { .. } => None,
-        Element::NextProto { .. } => None,
+        _ => None,
     }
 }
 

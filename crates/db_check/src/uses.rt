@@ -19,9 +19,8 @@ fn literal_is_unknown(literal: &Literal, known: &Known) -> bool
     ensures { result ≡ NameFaults.literal_is_unknown known.now.database.now literal.now }
 {
     match literal {
-        Literal::Number(_) => false,
-        Literal::Text(_) => false,
         Literal::Protocol(name) => !known.has_protocol(name.as_slice()),
+        _ => false,
     }
 }
 
@@ -78,9 +77,7 @@ fn of_item(item: &SumItem, known: &Known) -> Option<Fault>
         SumItem::Section { line, name } => {
             at_line(*line, 41, !has_section(&known.database.sum_struct, name))
         }
-        SumItem::Text { .. } => None,
-        SumItem::ProtoField { .. } => None,
-        SumItem::PacketHdr { .. } => None,
+        _ => None,
     }
 }
 

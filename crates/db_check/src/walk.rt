@@ -28,11 +28,8 @@ fn inside(kind: Kind, element: &Element, around: &Around) -> Option<Fault>
     ensures { result ≡ first (code kind) (inside_at (own_in around.now kind) element.now) }
 {
     match element {
-        Element::Field { .. } => None,
         Element::Block { body, .. } => of_list(kind, body.as_slice(), around),
-        Element::IncludeBlock { .. } => None,
         Element::Loop { body, .. } => of_list(kind, body.as_slice(), around),
-        Element::LoopCtrl { .. } => None,
         Element::Switch {
             cases,
             otherwise,
@@ -49,9 +46,7 @@ fn inside(kind: Kind, element: &Element, around: &Around) -> Option<Fault>
             of_list(kind, if_true.as_slice(), around),
             of_branch(kind, if_false, around),
         ),
-        Element::Assign { .. } => None,
-        Element::Update { .. } => None,
-        Element::NextProto { .. } => None,
+        _ => None,
     }
 }
 
