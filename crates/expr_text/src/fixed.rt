@@ -1,3 +1,6 @@
+//! What the machine does where one token is fixed, or one of few. What isn't kept is dropped by a call: a call takes a
+//! value apart by functions of its types, where an end of scope writes that out again.
+
 ghost use Rattle.std.specs.Prelude.{◌≡◌, IfOk};
 ghost use Rattle.expr_text.specs.Machine;
 ghost use Rattle.expr_text.specs.Machine.{now};

@@ -1,3 +1,6 @@
+//! Operators that are joined with their operands. What isn't kept is dropped by a call, as in `fixed`; of two boxes the
+//! second is asked for before the first is looked at, so that one failure alone has anything to drop.
+
 ghost use Rattle.std.specs.Prelude.{◌≡◌, IfOk};
 ghost use Rattle.db_model.specs.declared.expression.Expr.TheVariants as Expr;
 ghost use Rattle.expr_text.specs.Tokens;

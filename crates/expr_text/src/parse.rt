@@ -1,3 +1,5 @@
+//! The machine over a whole text. What isn't kept is dropped by a call, as in `fixed`.
+
 ghost use Rattle.std.specs.Prelude.{◌≡◌, ◌≤◌, length, Some};
 ghost use Rattle.expr_text.specs.Lexing.{lexemes};
 ghost use Rattle.expr_text.specs.Machine;

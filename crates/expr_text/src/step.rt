@@ -1,3 +1,5 @@
+//! One step of the machine, by the token that comes. What isn't kept is dropped by a call, as in `fixed`.
+
 ghost use Rattle.std.specs.Prelude.{◌≡◌, List, [], ◌∷◌, ◌++◌, IfOk, IfSome, IfNone, length};
 ghost use Rattle.expr_text.specs.Machine;
 ghost use Rattle.expr_text.specs.Tokens;
