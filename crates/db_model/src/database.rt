@@ -156,3 +156,8 @@ pub struct Database {
     pub sum_templates: Items<SumTemplate>,
     pub protocols: Items<Protocol>,
 }
+
+impl Database {
+    /// Lets the database go. Where one goes out of scope, all its destructors are proved again.
+    pub fn discard(self) {}
+}
