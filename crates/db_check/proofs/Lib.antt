@@ -11,3 +11,4 @@ pub mod Included
 pub mod Declarations
 pub mod Acyclic
 pub mod Ordered
+pub mod Filled

@@ -111,11 +111,8 @@ fn of_branch(branch: &Option<Branch>, heights: &[u32], home: &Home) -> u32
 fn no_heights(alloc: Global, home: &Home) -> Result<Sequence<u32>, NoMemory>
     ensures { IfOk result (λ heights. heights ≡ map (λ (b : NamedBlock). 0) (blocks_in home.now.protocol.now.format)) }
 {
-    let mut heights = Sequence::new(alloc);
-    for _block in parts::named_blocks(home.protocol) {
-        heights.push(0)?;
-    }
-    Ok(heights)
+    let count = parts::named_blocks(home.protocol).len();
+    Ok(Sequence::from_vec(vec![in alloc; 0u32; count]?))
 }
 
 /// One round: the heights of the named blocks by those of the round before.

@@ -17,16 +17,12 @@ pub struct Search {
 }
 
 impl Search {
-    #[tactic(auto, unfolding(crate::specs::Graph::unmarked))]
     fn new(alloc: Global, graph: &Graph) -> Result<Search, NoMemory>
         ensures { IfOk result (λ s. s ≡ Graph.unmarked graph.now) }
     {
-        let mut marks = Sequence::new(alloc);
-        for _targets in graph.as_slice() {
-            marks.push(false)?;
-        }
+        let marks = vec![in alloc; false; graph.len()]?;
         Ok(Search {
-            marks,
+            marks: Sequence::from_vec(marks),
             queue: Sequence::new(alloc),
         })
     }
