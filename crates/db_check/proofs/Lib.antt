@@ -12,3 +12,4 @@ pub mod Declarations
 pub mod Acyclic
 pub mod Ordered
 pub mod Filled
+pub mod Tallest
