@@ -27,8 +27,13 @@ fn names_of(alloc: Global, db: &Database) -> Result<NameIndex, DbFail>
     ensures refused { IfErr result (λ e. Objects db.now e) }
 {
     let names = NameIndex::of(alloc, db)?;
-    judged(alloc, db, &names)?;
-    Ok(names)
+    match judged(alloc, db, &names) {
+        Ok(()) => Ok(names),
+        Err(fail) => {
+            names.discard();
+            Err(fail)
+        }
+    }
 }
 
 /// The same database, checked: it takes the names that it needs later with it. A fault has a code from 40 to 47.
@@ -38,6 +43,9 @@ pub fn check(alloc: Global, db: Database) -> Result<CheckedDb, DbFail>
 {
     match names_of(alloc, &db) {
         Ok(names) => Ok(CheckedDb::seal(db, names)),
-        Err(fail) => Err(fail),
+        Err(fail) => {
+            db.discard();
+            Err(fail)
+        }
     }
 }

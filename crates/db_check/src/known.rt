@@ -8,7 +8,6 @@ ghost use Rattle.db_check.specs.Known.{IsKnown, lines_by, lacks_summary, summary
 ghost use Rattle.db_check.specs.Own.{code};
 
 use crate::around::Around;
-use crate::field_names::field_names;
 use crate::first::at_line;
 use crate::kind::Kind;
 use crate::walk::in_protocol;
@@ -77,9 +76,9 @@ impl<'a> Known<'a> {
         requires there { slice_get self.now.database.now.protocols number ≡ Some protocol.now }
         ensures { IfOk result (λ f. f ≡ first (code kind) (protocol_lines self.now.database.now kind protocol.now)) }
     {
-        let fields = field_names(alloc, protocol)?;
-        let places = Places::of(alloc, fields.as_slice())?;
-        Ok(in_scope(self, kind, number, protocol, fields.as_slice(), &places))
+        let fields = self.names.fields_at(number);
+        let places = Places::of(alloc, fields)?;
+        Ok(in_scope(self, kind, number, protocol, fields, &places))
     }
 
     /// The least fault of this kind in all protocols.

@@ -5,7 +5,6 @@
 
 mod around;
 mod cycles;
-mod field_names;
 mod first;
 mod heights;
 mod home;

@@ -81,6 +81,12 @@ impl CheckedDb {
         Ok(CheckedDb::seal(database, names))
     }
 
+    /// Lets the database go with its names, as `Database::discard`.
+    pub fn discard(self) {
+        self.database.discard();
+        self.names.discard();
+    }
+
     pub fn database(&self) -> &Database
         ensures database { result.now ≡ self.now }
         ensures checked { IsChecked self.now }

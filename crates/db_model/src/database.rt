@@ -156,3 +156,11 @@ pub struct Database {
     pub sum_templates: Items<SumTemplate>,
     pub protocols: Items<Protocol>,
 }
+
+impl Database {
+    /// Lets the database go. A crate in which one goes out of scope needs a function to drop each type in it, proved there
+    /// once more.
+    pub fn discard(self) {
+        drop(self);
+    }
+}

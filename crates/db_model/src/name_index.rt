@@ -101,10 +101,22 @@ impl NameIndex {
     pub fn field_names(&self, protocol: u16) -> &[Name]
         ensures { (db : Database) → IsIndex db self.now → result.now ≡ names_of_protocol db protocol }
     {
-        match self.fields.get(protocol as usize) {
+        self.fields_at(protocol as usize)
+    }
+
+    /// The same for a number of any size.
+    pub fn fields_at(&self, protocol: usize) -> &[Name]
+        ensures { (db : Database) → IsIndex db self.now → result.now ≡ names_of_protocol db protocol }
+    {
+        match self.fields.get(protocol) {
             Some(names) => names.as_slice(),
             None => &[],
         }
+    }
+
+    /// Lets the index go, as `Database::discard`.
+    pub fn discard(self) {
+        drop(self);
     }
 }
 

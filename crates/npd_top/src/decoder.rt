@@ -189,3 +189,20 @@ pub fn decoder_of(db: CheckedDb, parts: Parts) -> Decoder
         session,
     }
 }
+
+impl Decoder {
+    /// Lets the decoder go, its database as that wants to be let go.
+    pub fn discard(self) {
+        let Engine {
+            db,
+            code,
+            labels,
+            summaries,
+        } = self.engine;
+        db.discard();
+        drop(code);
+        drop(labels);
+        drop(summaries);
+        drop(self.session);
+    }
+}

@@ -106,7 +106,7 @@ pub fn load_decoder<H: Host>(
     match parts_of(alloc, &db) {
         Ok(parts) => Ok(decoder_of(db, parts)),
         Err(_) => {
-            drop(db);
+            db.discard();
             Err(Status::NoMemory)
         }
     }
@@ -130,6 +130,6 @@ pub fn load_totals<H: Host>(
         Err(status) => return Err(status),
     };
     let totals = totals_of(db.database());
-    drop(db);
+    db.discard();
     Ok(totals)
 }

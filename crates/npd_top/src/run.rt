@@ -68,7 +68,7 @@ fn run_decode<H: Host>(alloc: Global, host: &mut H, files: &DecodeFiles) -> Stat
         Err(status) => return status,
     };
     let status = decode_capture(alloc, host, files, &mut decoder);
-    drop(decoder);
+    decoder.discard();
     status
 }
 
