@@ -1,5 +1,8 @@
+//! Over files. Each host is dropped by a call before anything is looked at, since each way out of a function that still
+//! has one takes it apart.
+
 use crate::fake::Slow;
-use crate::steps::{holds, one_write, output, three_reads, writes};
+use crate::steps::{first_write, holds, three_reads, writes};
 use npd_host::{FileHost, HostFail};
 use std::fs;
 use std::test::Fail;
@@ -7,19 +10,15 @@ use std::test::Fail;
 #[test]
 fn empties_a_longer_file(rt: HostRuntime) -> Result<(), Fail> {
     fs::write(&rt, "written", b"a longer text")?;
-    writes(
-        &mut FileHost::new(&rt, rt.alloc()),
-        "written",
-        b"short\n\x00",
-    )?;
+    let mut host = FileHost::new(&rt, rt.alloc());
+    let written = writes(&mut host, "written", b"short\n\x00");
+    drop(host);
+    written?;
     assert!(rt; fs::read(&rt, "written")?.as_slice() == b"short\n\x00".as_slice());
-    assert!(rt;
-        holds(
-            &mut FileHost::new(&rt, rt.alloc()),
-            "written",
-            b"short\n\x00"
-        )?
-    );
+    let mut host = FileHost::new(&rt, rt.alloc());
+    let held = holds(&mut host, "written", b"short\n\x00");
+    drop(host);
+    assert!(rt; held?);
     Ok(())
 }
 
@@ -27,10 +26,15 @@ fn empties_a_longer_file(rt: HostRuntime) -> Result<(), Fail> {
 fn reads_on_behind_small_reads(rt: HostRuntime) -> Result<(), Fail> {
     fs::write(&rt, "in", b"0123456789")?;
     for (room, wanted) in [(4, "0123456789"), (3, "012345678"), (16, "0123456789")] {
-        let read = three_reads(rt.alloc(), &mut FileHost::new(&rt, rt.alloc()), "in", room)?;
-        assert!(rt; read.as_slice() == wanted.as_bytes());
+        let mut host = FileHost::new(&rt, rt.alloc());
+        let read = three_reads(rt.alloc(), &mut host, "in", room);
+        drop(host);
+        assert!(rt; read?.as_slice() == wanted.as_bytes());
     }
-    assert!(rt; holds(&mut FileHost::new(&rt, rt.alloc()), "none", b"").is_err());
+    let mut host = FileHost::new(&rt, rt.alloc());
+    let missing = holds(&mut host, "none", b"");
+    drop(host);
+    assert!(rt; missing.is_err());
     Ok(())
 }
 
@@ -42,12 +46,19 @@ fn counts_what_was_taken(rt: HostRuntime) -> Result<(), Fail> {
         most: 3,
     };
     let mut host = FileHost::new(&slow, rt.alloc());
-    let id = output(&mut host, "parts")?;
-    assert!(rt; one_write(&mut host, id, b"abcdefg")? == 3);
+    let taken = first_write(&mut host, "parts", b"abcdefg");
+    drop(host);
+    assert!(rt; taken? == 3);
     assert!(rt; fs::read(&rt, "parts")?.as_slice() == b"abc".as_slice());
-    writes(&mut FileHost::new(&slow, rt.alloc()), "parts", b"abcdefg")?;
+    let mut host = FileHost::new(&slow, rt.alloc());
+    let written = writes(&mut host, "parts", b"abcdefg");
+    drop(host);
+    written?;
     assert!(rt; fs::read(&rt, "parts")?.as_slice() == b"abcdefg".as_slice());
-    assert!(rt; holds(&mut FileHost::new(&slow, rt.alloc()), "parts", b"abcdefg")?);
+    let mut host = FileHost::new(&slow, rt.alloc());
+    let held = holds(&mut host, "parts", b"abcdefg");
+    drop(host);
+    assert!(rt; held?);
     Ok(())
 }
 
@@ -65,8 +76,11 @@ fn repeats_an_interrupted_call(rt: HostRuntime) -> Result<(), Fail> {
             most,
         };
         let mut host = FileHost::new(&slow, rt.alloc());
-        assert!(rt; holds(&mut host, "in", b"abcd") == read);
-        assert!(rt; writes(&mut host, "written", b"abcd") == written);
+        let held = holds(&mut host, "in", b"abcd");
+        let wrote = writes(&mut host, "written", b"abcd");
+        drop(host);
+        assert!(rt; held == read);
+        assert!(rt; wrote == written);
     }
     Ok(())
 }
@@ -79,8 +93,11 @@ fn serves_the_standard_streams(rt: HostRuntime) -> Result<(), Fail> {
         most: 2,
     };
     let mut host = FileHost::new(&slow, rt.alloc());
-    assert!(rt; holds(&mut host, "-", b"0123456789")?);
-    writes(&mut host, "-", b"abcde")?;
+    let held = holds(&mut host, "-", b"0123456789");
+    let written = writes(&mut host, "-", b"abcde");
+    drop(host);
+    assert!(rt; held?);
+    written?;
     assert!(rt; fs::read(&rt, "standard")?.as_slice() == b"abcde".as_slice());
     Ok(())
 }

@@ -1,4 +1,4 @@
-use crate::steps::{one_write, output, three_reads, writes};
+use crate::steps::{first_write, three_reads, writes};
 use npd_host::{CallKind, Host, HostFail, MemHost};
 use std::alloc::Global;
 use std::test::Fail;
@@ -6,9 +6,15 @@ use std::test::Fail;
 /// What three reads give of a file that was replaced before it was opened.
 fn three_of(alloc: Global, chunk: u32, bytes: &[u8]) -> Result<Vec<u8>, HostFail> {
     let mut host = MemHost::new(alloc, chunk.max(1))?;
+    let read = three_of_replaced(alloc, &mut host, bytes);
+    drop(host);
+    read
+}
+
+fn three_of_replaced(alloc: Global, host: &mut MemHost, bytes: &[u8]) -> Result<Vec<u8>, HostFail> {
     host.put_file("cap", b"old")?;
     host.put_file("cap", bytes)?;
-    three_reads(alloc, &mut host, "cap", 16)
+    three_reads(alloc, host, "cap", 16)
 }
 
 #[test]
@@ -27,15 +33,24 @@ fn is_written(host: &MemHost, name: &str, bytes: Option<&[u8]>) -> bool {
     host.written(name) == bytes
 }
 
+/// Writes two outputs, one of them twice.
+fn write_outputs(host: &mut MemHost) -> Result<(), HostFail> {
+    for (name, bytes) in [("pdml", "<pdml>"), ("psml", "<psml>"), ("pdml", "abc")] {
+        writes(host, name, bytes.as_bytes())?;
+    }
+    Ok(())
+}
+
 #[test]
 fn keeps_what_is_written(rt: HostRuntime) -> Result<(), Fail> {
     let mut host = MemHost::new(rt.alloc(), 1)?;
-    for (name, bytes) in [("pdml", "<pdml>"), ("psml", "<psml>"), ("pdml", "abc")] {
-        writes(&mut host, name, bytes.as_bytes())?;
-    }
-    assert!(rt; is_written(&host, "pdml", Some(b"abc")));
-    assert!(rt; is_written(&host, "psml", Some(b"<psml>")));
-    assert!(rt; is_written(&host, "trace", None));
+    let written = write_outputs(&mut host);
+    let is_kept = is_written(&host, "pdml", Some(b"abc"))
+        && is_written(&host, "psml", Some(b"<psml>"))
+        && is_written(&host, "trace", None);
+    drop(host);
+    written?;
+    assert!(rt; is_kept);
     Ok(())
 }
 
@@ -56,10 +71,16 @@ fn failing(host: &mut MemHost) -> [bool; 4] {
 
 fn failing_by_turns(alloc: Global, kind: CallKind, nth: u64) -> Result<[[bool; 4]; 2], HostFail> {
     let mut host = MemHost::new(alloc, 4)?;
+    let turns = two_turns(&mut host, kind, nth);
+    drop(host);
+    turns
+}
+
+fn two_turns(host: &mut MemHost, kind: CallKind, nth: u64) -> Result<[[bool; 4]; 2], HostFail> {
     host.put_file("cap", b"ab")?;
     host.fail(kind, nth)?;
-    let first = failing(&mut host);
-    Ok([first, failing(&mut host)])
+    let first = failing(host);
+    Ok([first, failing(host)])
 }
 
 #[test]
@@ -79,8 +100,10 @@ fn fails_as_it_was_told(rt: HostRuntime) -> Result<(), Fail> {
 #[test]
 fn misses_an_input(rt: HostRuntime) -> Result<(), Fail> {
     let mut host = MemHost::new(rt.alloc(), 4)?;
-    assert!(rt; three_reads(rt.alloc(), &mut host, "db", 4).is_err());
-    let id = output(&mut host, "out")?;
-    assert!(rt; one_write(&mut host, id, b"abc")? == 3);
+    let read = three_reads(rt.alloc(), &mut host, "db", 4);
+    let taken = first_write(&mut host, "out", b"abc");
+    drop(host);
+    assert!(rt; read.is_err());
+    assert!(rt; taken? == 3);
     Ok(())
 }

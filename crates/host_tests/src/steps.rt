@@ -53,14 +53,14 @@ pub fn holds<H: Host>(host: &mut H, name: &str, bytes: &[u8]) -> Result<bool, Ho
 }
 
 /// Opens an output.
-pub fn output<H: Host>(host: &mut H, name: &str) -> Result<OutId, HostFail>
+fn output<H: Host>(host: &mut H, name: &str) -> Result<OutId, HostFail>
     ensures { IfOk result (λ id. IsSome ((H.outputs host.new).name id.0)) }
 {
     host.open_out(name)
 }
 
 /// How many of these bytes one write takes.
-pub fn one_write<H: Host>(host: &mut H, id: OutId, bytes: &[u8]) -> Result<usize, HostFail>
+fn one_write<H: Host>(host: &mut H, id: OutId, bytes: &[u8]) -> Result<usize, HostFail>
     requires { IsSome ((H.outputs host.old).name id.0) }
     ensures { IsSome ((H.outputs host.new).name id.0) }
 {
@@ -68,6 +68,12 @@ pub fn one_write<H: Host>(host: &mut H, id: OutId, bytes: &[u8]) -> Result<usize
         return Ok(0);
     }
     host.write(id, bytes)
+}
+
+/// Opens an output, and how many of these bytes one write takes.
+pub fn first_write<H: Host>(host: &mut H, name: &str, bytes: &[u8]) -> Result<usize, HostFail> {
+    let id = output(host, name)?;
+    one_write(host, id, bytes)
 }
 
 /// Opens an output and writes all of these bytes.

@@ -11,11 +11,20 @@ struct Seen {
 }
 
 fn look(alloc: Global) -> Result<Seen, NoMemory> {
-    let bare = CheckedDb::bare(alloc)?;
+    let bare = match CheckedDb::bare(alloc) {
+        Ok(bare) => bare,
+        Err(fail) => return Err(fail),
+    };
+    let seen = seen_in(alloc, &bare);
+    bare.discard();
+    seen
+}
+
+fn seen_in(alloc: Global, db: &CheckedDb) -> Result<Seen, NoMemory> {
     Ok(Seen {
-        is_startproto_alone: is_startproto_alone(&bare),
-        places: places_in(&bare),
-        begins_full: begins_full(alloc, &bare)?,
+        is_startproto_alone: is_startproto_alone(db),
+        places: places_in(db),
+        begins_full: begins_full(alloc, db)?,
     })
 }
 

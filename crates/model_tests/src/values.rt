@@ -115,11 +115,23 @@ fn look(alloc: Global, renew: bool) -> Result<Question, NoMemory> {
     })
 }
 
-fn differ_by_renewal(alloc: Global) -> Result<bool, NoMemory> {
-    let plain = look(alloc, false)?;
-    let renewing = look(alloc, true)?;
+fn is_unlike(plain: &Question, renewing: &Question) -> Result<bool, NoMemory> {
     let copy = plain.clone()?;
-    Ok(plain != renewing && plain == copy)
+    let is_so = plain != renewing && *plain == copy;
+    drop(copy);
+    Ok(is_so)
+}
+
+fn differ_by_renewal(alloc: Global) -> Result<bool, NoMemory> {
+    let plain = look(alloc, false);
+    let renewing = look(alloc, true)?;
+    let differ = match &plain {
+        Ok(plain) => is_unlike(plain, &renewing),
+        Err(_) => Ok(false),
+    };
+    drop(plain);
+    drop(renewing);
+    differ
 }
 
 #[test]
