@@ -15,13 +15,16 @@ use std::sync::ledger::{Blank, Ledger};
 /// The lines that come of a packet under the database that a text is: one for each question that is asked of its
 /// first table, and then the tree. None: the text is no database that is accepted.
 pub fn found(alloc: Global, text: &[u8], packet: &Packet) -> Option<String> {
-    let db = checked(alloc, text)?;
-    decoded(alloc, &db, packet)
-}
-
-fn checked(alloc: Global, text: &[u8]) -> Option<CheckedDb> {
-    match load_database(alloc, text) {
-        Ok(db) => check(alloc, db).ok(),
+    let loaded = match load_database(alloc, text) {
+        Ok(db) => check(alloc, db),
+        Err(_) => return None,
+    };
+    match loaded {
+        Ok(db) => {
+            let found = decoded(alloc, &db, packet);
+            db.discard();
+            found
+        }
         Err(_) => None,
     }
 }

@@ -159,7 +159,9 @@ fn comes_to(
     asked: usize,
 ) -> Result<bool, ExprFail> {
     let e = parse_expr(alloc, text)?;
-    let (end, count) = evaluated(alloc, db, &e, questions, decoded)?;
+    let found = evaluated(alloc, db, &e, questions, decoded);
+    drop(e);
+    let (end, count) = found?;
     Ok(is_wanted(&end, wanted) && count == asked)
 }
 
@@ -174,8 +176,13 @@ fn first_wrong(alloc: Global, db: &CheckedDb) -> Result<Option<usize>, ExprFail>
 }
 
 fn first_wrong_over_the_sample(alloc: Global) -> Result<Option<usize>, ExprFail> {
-    let db = keyed_database(alloc)?;
-    first_wrong(alloc, &db)
+    let db = match keyed_database(alloc) {
+        Ok(db) => db,
+        Err(fail) => return Err(ExprFail::from(fail)),
+    };
+    let wrong = first_wrong(alloc, &db);
+    db.discard();
+    wrong
 }
 
 #[test]

@@ -75,7 +75,11 @@ fn by_database(rt: &(impl AllocGlobal + Print), db: &CheckedDb, text: &str) -> b
 fn by_text(rt: &(impl AllocGlobal + Print), database: &[u8], text: &str) -> bool {
     match load_database(rt.alloc(), database) {
         Ok(db) => match check(rt.alloc(), db) {
-            Ok(db) => by_database(rt, &db, text),
+            Ok(db) => {
+                let hold = by_database(rt, &db, text);
+                db.discard();
+                hold
+            }
             Err(_) => false,
         },
         Err(_) => false,
