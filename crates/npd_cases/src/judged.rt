@@ -8,8 +8,12 @@ use std::alloc::Global;
 /// How `check` ends over a database of these bytes, as its exit number and line.
 fn checked(alloc: Global, bytes: &[u8]) -> Option<String> {
     let mut host = MemHost::new(alloc, 65_536).ok()?;
-    host.put_file("d", bytes).ok()?;
-    run(alloc, &mut host, "check --db d")
+    let end = match host.put_file("d", bytes) {
+        Ok(()) => run(alloc, &mut host, "check --db d"),
+        Err(_) => None,
+    };
+    drop(host);
+    end
 }
 
 /// `sound TEXT`: whether the database is accepted.

@@ -12,13 +12,13 @@ use std::process::ExitCode;
 use std::rt::Files;
 use std::{fs, io};
 
-/// Whether a case holds. The first line that doesn't is printed.
-fn holds(rt: &(impl Files + AllocGlobal + Print), lines: &str) -> io::Result<bool> {
-    let (head, rest) = lines.split_once('\n').unwrap_or((lines, ""));
-    let Some(mut case) = Case::begin(rt.alloc(), head) else {
-        println!(rt; "{head}: no case begins so")?;
-        return Ok(false);
-    };
+/// Whether a case that began holds. The first line that doesn't is printed.
+fn begun_holds(
+    rt: &(impl Files + AllocGlobal + Print),
+    case: &mut Case,
+    head: &str,
+    rest: &str,
+) -> io::Result<bool> {
     for line in rest.lines() {
         if !case.takes(rt, line) {
             println!(rt; "{head}: {line} (ended {})", case.end())?;
@@ -29,6 +29,22 @@ fn holds(rt: &(impl Files + AllocGlobal + Print), lines: &str) -> io::Result<boo
         println!(rt; "{head}: it doesn't say how it ends")?;
     }
     Ok(case.is_judged())
+}
+
+/// Whether a case holds.
+fn holds(rt: &(impl Files + AllocGlobal + Print), lines: &str) -> io::Result<bool> {
+    let (head, rest) = lines.split_once('\n').unwrap_or((lines, ""));
+    match Case::begin(rt.alloc(), head) {
+        Some(mut case) => {
+            let holds = begun_holds(rt, &mut case, head, rest);
+            drop(case);
+            holds
+        }
+        None => {
+            println!(rt; "{head}: no case begins so")?;
+            Ok(false)
+        }
+    }
 }
 
 /// Whether all cases hold, of which there is at least one.
