@@ -9,3 +9,7 @@ pub mod Proper
 pub mod ProperRuns
 pub mod ProperDecoding
 pub mod Typed
+pub mod Few
+pub mod PlainRuns
+pub mod PlainElements
+pub mod Plain

@@ -1,5 +1,5 @@
 -- The value of a typed expression has its type, and the state after it fits.
-use Rattle.std.specs.Prelude.{◌≡◌, ℕ, zero, suc, ◌<◌, Bool, ◌&&◌, true, false, not, ◌||◌, if◌then◌else◌, nat_lt, ◌==◌, List, [], ◌∷◌, ◌++◌, map, length, slice_get, slice_set, bytes_eq, Option, Some, None, Result, Ok, Err}
+use Rattle.std.specs.Prelude.{◌≡◌, ℕ, zero, suc, ◌<◌, Bool, ◌&&◌, true, false, not, ◌||◌, if◌then◌else◌, ◌==◌, List, [], ◌∷◌, ◌++◌, map, length, slice_get, slice_set, bytes_eq, Option, Some, None, Result, Ok, Err}
 use Rattle.std.proofs.Common.{refl, ap, subst, ◌∙◌, arith}
 use Rattle.std.specs.List.{list_any}
 use Rattle.std.proofs.lemmas.Bool.Decides.{Decides-ltb}
@@ -28,12 +28,12 @@ use Rattle.db_model.specs.declared.value.Ty.{Ty}
 use Rattle.db_model.specs.declared.value.Ty.TheVariants as ty
 use Rattle.db_model.specs.declared.value.Value.{Value}
 use Rattle.db_model.specs.declared.value.Value.TheVariants as value
-use Rattle.db_model.specs.Expression.{Eval, give, fail, result, when, ◌>>=◌, or_fail, answer_at, asks, hit_as_number, keys_from, key_sizes, columns_of, row_hit, look_up, special_value, variable_by, value_or_zero, last_of, val, num, buf, proto, is_so, truth, in_range, binary, slice, to_number, in_bytes, declared_or_first, taken_as}
+use Rattle.db_model.specs.Expression.{Eval, give, fail, result, when, ◌>>=◌, or_fail, answer_at, asks, hit_as_number, keys_from, key_sizes, columns_of, row_hit, look_up, special_value, variable_by, value_or_zero, last_of, val, num, buf, proto, is_so, truth, in_range, binary, slice, to_number, in_bytes}
 use Rattle.db_model.specs.Expression as meaning
 use Rattle.db_model.specs.Fitting.{is_of_type, row_fits, is_declared, has_type, row_declared, answer_fits, table_of}
 use Rattle.db_model.specs.Folds.{fold_expr, fold_exprs}
 use Rattle.db_model.specs.Decoding.{literal}
-use Rattle.db_laws.specs.Laws.{TypedValues, TakenAsItself, StartFits}
+use Rattle.db_laws.specs.Laws.{TypedValues, StartFits}
 use Rattle.db_model.specs.Lines.{Lines, over, at_line, lines_in}
 use Rattle.db_model.specs.NameFaults.{fault_41, literal_is_unknown, item_41, protocol_41}
 use Rattle.db_model.specs.Numbering.{field_names}
@@ -108,7 +108,7 @@ module _ (db : Database) where
   abbrev pub KeepsFit : {A : Type 0} → (A → Type 0) → Eval A → Type 0
   KeepsFit P p = (z : Env) → env_fits db z ≡ true → Gets db (Fitting P) (p z)
 
-  fit_then : {A B : Type 0} (P : A → Type 0) (Q : B → Type 0) (p : Eval A) (f : A → Eval B) → KeepsFit P p → ((a : A) → P a → KeepsFit Q (f a)) → KeepsFit Q (p >>= f)
+  pub fit_then : {A B : Type 0} (P : A → Type 0) (Q : B → Type 0) (p : Eval A) (f : A → Eval B) → KeepsFit P p → ((a : A) → P a → KeepsFit Q (f a)) → KeepsFit Q (p >>= f)
   fit_then {A} {B} P Q p f h g z k = gets_then db (Fitting P) (Fitting Q) (λ r. on_ok f r.0 r.1) (λ r m. on r.0 m.0 r.1 m.1) (p z) (h z k)
     where
       on : (r : Result A Reason) → OnValue P r → (y : Env) → env_fits db y ≡ true → Gets db (Fitting Q) (on_ok f r y)
@@ -118,21 +118,21 @@ module _ (db : Database) where
   abbrev pub SomeValue : {A : Type 0} → A → Type 0
   SomeValue a = Unit {0}
 
-  fit_any : {A B : Type 0} (Q : B → Type 0) (p : Eval A) (f : A → Eval B) → KeepsFit {A = A} SomeValue p → ((a : A) → KeepsFit Q (f a)) → KeepsFit Q (p >>= f)
+  pub fit_any : {A B : Type 0} (Q : B → Type 0) (p : Eval A) (f : A → Eval B) → KeepsFit {A = A} SomeValue p → ((a : A) → KeepsFit Q (f a)) → KeepsFit Q (p >>= f)
   fit_any Q p f h g = fit_then SomeValue Q p f h (λ a k. g a)
 
-  fit_result : {A : Type 0} (P : A → Type 0) (r : Result A Reason) → OnValue P r → KeepsFit P (result r)
+  pub fit_result : {A : Type 0} (P : A → Type 0) (r : Result A Reason) → OnValue P r → KeepsFit P (result r)
   fit_result P r h z k = (h, k)
 
-  no_value : {A : Type 0} (r : Result A Reason) → OnValue {A = A} SomeValue r
+  pub no_value : {A : Type 0} (r : Result A Reason) → OnValue {A = A} SomeValue r
   no_value (Ok a) = tt
   no_value (Err e) = tt
 
-  abbrev AllFit : List (Eval Value) → Type 0
+  abbrev pub AllFit : List (Eval Value) → Type 0
   AllFit [] = Unit {0}
   AllFit (p ∷ ps) = KeepsFit {A = Value} SomeValue p × AllFit ps
 
-  fit_keys : (sizes : List ℕ) (ps : List (Eval Value)) (before : List (List ℕ)) → AllFit ps → KeepsFit {A = List (List ℕ)} SomeValue (keys_from before sizes ps)
+  pub fit_keys : (sizes : List ℕ) (ps : List (Eval Value)) (before : List (List ℕ)) → AllFit ps → KeepsFit {A = List (List ℕ)} SomeValue (keys_from before sizes ps)
   fit_keys [] ps before h z k = (tt, k)
   fit_keys (size ∷ sizes) [] before h z k = (tt, k)
   fit_keys (size ∷ sizes) (p ∷ ps) before h z k =
@@ -141,10 +141,10 @@ module _ (db : Database) where
       (fit_result SomeValue (when (length (buf v) == size) reason.KeySize (buf v)) (no_value (when (length (buf v) == size) reason.KeySize (buf v))))
       (λ w. fit_keys sizes ps (before ++ w ∷ []) h.1)) z k
 
-  abbrev Answered : Question → Answer → Type 0
+  abbrev pub Answered : Question → Answer → Type 0
   Answered q a = answer_fits db (slice_get db.tables (table_of q)) a ≡ true
 
-  fit_asks : (q : Question) → KeepsFit (Answered q) (asks q)
+  pub fit_asks : (q : Question) → KeepsFit (Answered q) (asks q)
   unfolding env_fits
   fit_asks q z k = by z.questions
     where
@@ -224,7 +224,7 @@ module _ (db : Database) where
   number_num (b ∷ bs) = when_so ty.Num _ reason.Size _ refl
 
   -- where P is enough for Q
-  weaker : {A : Type 0} (P Q : A → Type 0) → ((a : A) → P a → Q a) → (p : Eval A) → KeepsFit P p → KeepsFit Q p
+  pub weaker : {A : Type 0} (P Q : A → Type 0) → ((a : A) → P a → Q a) → (p : Eval A) → KeepsFit P p → KeepsFit Q p
   weaker {A} P Q g p h z k = gets_map (p z) (h z k)
     where
       on : (r : Result A Reason) → OnValue P r → OnValue Q r
@@ -318,6 +318,16 @@ module _ (db : Database) where
       all_kept end_of-Expr = tt
       all_kept (more_of-Expr e rest) = (as_kept e (typed e), all_kept rest)
 
+-- an expression keeps a state that fits, typed or not
+pub val_keeps : (db : Database) (fields : List Text) (e : Expr) → KeepsFit db {A = Value} (SomeValue db) (val db fields e)
+unfolding val
+val_keeps db fields e = as_kept db fields e (typed db fields e)
+
+-- and where it has a type, its value has it
+pub val_typed : (db : Database) (fields : List Text) (e : Expr) (t : Ty) → has_undeclared db fields e ≡ false → ty_of db e ≡ Some t → KeepsFit db (λ v. has_type db t v ≡ true) (val db fields e)
+unfolding val
+val_typed db fields e t u k = weaker db (Typed db fields e) (λ v. has_type db t v ≡ true) (λ v h. h t u k) _ (typed db fields e)
+
 pub typed_values : TypedValues
 unfolding type_of val
 typed_values db fields e t z h k = by (has_undeclared db fields e) (has_wrong_arity db e) (ty_of db e) refl refl h
@@ -380,18 +390,3 @@ start_fits db p c =
     let a = append_front (over (unknown db) db.variables) rest (append_back first (over (unknown db) db.variables ++ rest) names.none_41) in
     let b = append_front (over (wrong db) db.variables) (over (λ (q : Protocol). lines_in (own_42 db (field_names q)) q) db.protocols) names.none_42 in
     and_both (variables_fit db db.variables (map (λ v. literal db v.value) db.variables)) (hits_fit db db.tables (map (λ d. None) db.tables)) (first_variables db db.variables a b) (no_hits db db.tables)
-
-pub taken_itself : TakenAsItself
-taken_itself db ty.Num (value.Num n) h = refl
-taken_itself db ty.Num (value.Buf b) h = (cc)
-taken_itself db ty.Num (value.Proto p) h = (cc)
-taken_itself db ty.Buf (value.Num n) h = (cc)
-taken_itself db ty.Buf (value.Buf b) h = refl
-taken_itself db ty.Buf (value.Proto p) h = (cc)
-taken_itself db ty.Proto (value.Num n) h = (cc)
-taken_itself db ty.Proto (value.Buf b) h = (cc)
-taken_itself db ty.Proto (value.Proto p) h = by (nat_lt p (length db.protocols)) h
-  where
-    by : (b : Bool) → b ≡ true → value.Proto (if b then p else 0) ≡ value.Proto p
-    by true g = refl
-    by false g = (cc)

@@ -32,6 +32,7 @@ use Rattle.db_model.specs.Session.{Session, declared, ask}
 use Rattle.db_model.specs.Typed.{env_fits, Gets, IsTyped}
 use Rattle.db_model.specs.Typing.{type_of}
 use Rattle.db_model.specs.Table.{Parts, KeyList, add, look}
+use Rattle.db_laws.specs.Plain.{plain_dec, KeepsEnv}
 
 -- unchanged answers, unchanged decoding: where the log of the one agrees with the other session, decoding from there gives the same tree and log, and the session that the log leaves there
 abbrev pub UnchangedDecoding : Type 0
@@ -151,3 +152,13 @@ pub record CarriesState (S A B : Type 0) : Type 0 where
   pub result : (db : Database) (t : ℕ) (a : A) (z : State S) → from db t (pure a) z ≡ (a, record z { log = z.log ++ [] })
   pub one_after_another : (db : Database) (t : ℕ) (p : Step S A) (f : A → Step S B) (z : State S) → from db t (p then f) z ≡ from db t (f (from db t p z).0) (from db t p z).1
   pub question : (db : Database) (t : ℕ) (q : Question) (z : State S) → from db t (λ x. Asking q (λ a. Gives (a, x))) z ≡ ((ask db z.session q t).0, record z { session = (ask db z.session q t).1; log = z.log ++ (q, (ask db z.session q t).0) ∷ [] })
+
+-- in a checked database no update is changed by taking its data values as their columns' types: from a session that fits, a packet at a stamp is decoded as where each value stands in its row as it was evaluated. For the elements of a protocol and a chain leave a state that fits where they begin with one
+pub record UpdatesUnchanged : Type 0 where
+  pub decoding : (db : Database) (p : Packet) (s : Session) → IsChecked db → p.stamp < STAMP_END → session_fits db s ≡ true → plain_dec db p s ≡ dec db p s
+  pub list : (db : Database) (q : ℕ) (p : Protocol) (at : Counts) → IsChecked db → slice_get db.protocols q ≡ Some p → KeepsEnv db (list db p (elements_of p) at)
+  pub chain : (db : Database) (n q : ℕ) → IsChecked db → KeepsEnv db (chain db n q)
+
+-- a tree has at most as many protocols as a packet may enter, and the payload
+abbrev pub FewProtocols : Type 0
+FewProtocols = (db : Database) (p : Packet) (s : Session) → length (dec db p s).result ≤ 33

@@ -2,7 +2,7 @@
 //! above may use of tables, questions, decodings and included blocks.
 #![tactic(auto)]
 
-ghost use Rattle.db_laws.specs.Laws.{UnchangedDecoding, UnchangedComputation, DiffersNowhere, AgreesInParts, SessionOfDecoding, SerialFrom, SerialFront, IncludesEnd, CyclesFound, PutKeeps, TableKeeps, TableFits, TableOfQuestion, FitsStay, DeclaredFits, AsksProperly, ProperComputations, AfterFits, DecodingFits, SerialFits, TypedValues, StartFits, TakenAsItself, CarriesState};
+ghost use Rattle.db_laws.specs.Laws.{UnchangedDecoding, UnchangedComputation, DiffersNowhere, AgreesInParts, SessionOfDecoding, SerialFrom, SerialFront, IncludesEnd, CyclesFound, PutKeeps, TableKeeps, TableFits, TableOfQuestion, FitsStay, DeclaredFits, AsksProperly, ProperComputations, AfterFits, DecodingFits, SerialFits, TypedValues, StartFits, TakenAsItself, CarriesState, UpdatesUnchanged, FewProtocols};
 
 /// Where the log of a decoding agrees with another session, decoding from there gives the same tree and log.
 pub fn unchanged_decoding()
@@ -123,4 +123,14 @@ pub fn taken_as_itself()
 /// Leaving questions open says the same as carrying session and log through the state.
 pub fn carries_state<S, A, B>()
     ensures { CarriesState S A B }
+{}
+
+/// In a checked database no decoding is changed by taking the data values of updates as their columns' types.
+pub fn updates_unchanged()
+    ensures { UpdatesUnchanged }
+{}
+
+/// A tree has at most 32 protocols and the payload.
+pub fn few_protocols()
+    ensures { FewProtocols }
 {}
