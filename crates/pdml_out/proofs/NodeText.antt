@@ -7,9 +7,9 @@ use Rattle.db_model.specs.declared.database.Database.{Database}
 use Rattle.db_model.specs.declared.tree.Node as node
 use Rattle.db_model.specs.declared.tree.Node.{Node}
 use Rattle.db_model.specs.declared.tree.Reason.{Reason}
-use Rattle.show.specs.declared.labels.BlockLabel.{BlockLabel}
-use Rattle.show.specs.declared.labels.FieldLabel.{FieldLabel}
 use Rattle.show.specs.declared.labels.ProtocolLabels.{ProtocolLabels}
+use Rattle.show.specs.declared.naming.BlockNaming.{BlockNaming}
+use Rattle.show.specs.declared.naming.FieldNaming.{FieldNaming}
 use Rattle.show.specs.Labels.{field_at, block_at, labels_of}
 use Rattle.show.proofs.NodeLayers.{fold_block}
 use Rattle.pdml_out.specs.Pdml.{field_text, block_named, block_line, block_lines, note_line, node_step, node_text, nodes_text}
@@ -29,13 +29,13 @@ block_is db q block pos size ns =
     ∙ ap (λ (l : List ℕ). block_lines (block_named (block_at (labels_of db) q block)) pos size l) (flat_map-map (λ (l : List ℕ). l) (node_text db q) ns)
 
 -- the text of a field that was found by its number
-pub field_found : (db : Database) (labels : List ProtocolLabels) (found : Option FieldLabel) (n : Node) (q field pos size : ℕ) (value bytes : List ℕ) → labels ≡ labels_of db → found ≡ field_at labels q field → bytes ≡ value → n ≡ node.Field field pos size value → field_text db found pos size bytes ≡ node_text db q n
+pub field_found : (db : Database) (labels : List ProtocolLabels) (found : Option FieldNaming) (n : Node) (q field pos size : ℕ) (value bytes : List ℕ) → labels ≡ labels_of db → found ≡ field_at labels q field → bytes ≡ value → n ≡ node.Field field pos size value → field_text db found pos size bytes ≡ node_text db q n
 field_found db labels found n q field pos size value bytes own is same e =
-    ap (λ (l : Option FieldLabel). field_text db l pos size bytes) (is ∙ ap (λ (ls : List ProtocolLabels). field_at ls q field) own)
+    ap (λ (l : Option FieldNaming). field_text db l pos size bytes) (is ∙ ap (λ (ls : List ProtocolLabels). field_at ls q field) own)
     ∙ ap (λ (v : List ℕ). field_text db (field_at (labels_of db) q field) pos size v) same ∙ sym (ap (node_text db q) e ∙ field_is db q field pos size value)
 
 -- the line of a block that was found by its number, its nodes and its end
-pub block_found : (db : Database) (labels : List ProtocolLabels) (found : Option BlockLabel) (n : Node) (q block pos size : ℕ) (ns inner : List Node) (t0 t1 t2 : List ℕ) → labels ≡ labels_of db → found ≡ block_at labels q block → inner ≡ ns → n ≡ node.Block block pos size ns → t1 ≡ t0 ++ block_line (block_named found) pos size → t2 ≡ t1 ++ nodes_text db q inner → t2 ++ codes "</block>\n" ≡ t0 ++ node_text db q n
+pub block_found : (db : Database) (labels : List ProtocolLabels) (found : Option BlockNaming) (n : Node) (q block pos size : ℕ) (ns inner : List Node) (t0 t1 t2 : List ℕ) → labels ≡ labels_of db → found ≡ block_at labels q block → inner ≡ ns → n ≡ node.Block block pos size ns → t1 ≡ t0 ++ block_line (block_named found) pos size → t2 ≡ t1 ++ nodes_text db q inner → t2 ++ codes "</block>\n" ≡ t0 ++ node_text db q n
 block_found db labels found n q block pos size ns inner t0 t1 t2 own is same e opened within =
     let line : List ℕ = block_line (block_named found) pos size in
     let label = is ∙ ap (λ (ls : List ProtocolLabels). block_at ls q block) own in
@@ -43,7 +43,7 @@ block_found db labels found n q block pos size ns inner t0 t1 t2 own is same e o
     ∙ append_assoc (t0 ++ line) (nodes_text db q inner) (codes "</block>\n")
     ∙ append_assoc t0 line (nodes_text db q inner ++ codes "</block>\n")
     ∙ ap (λ (l : List ℕ). t0 ++ l)
-    (ap (λ (l : Option BlockLabel). block_lines (block_named l) pos size (nodes_text db q inner)) label
+    (ap (λ (l : Option BlockNaming). block_lines (block_named l) pos size (nodes_text db q inner)) label
     ∙ ap (λ (k : List Node). block_lines (block_named (block_at (labels_of db) q block)) pos size (nodes_text db q k)) same
     ∙ sym (ap (node_text db q) e ∙ block_is db q block pos size ns))
 

@@ -14,25 +14,17 @@ use Rattle.db_model.specs.declared.tree.Proto.{Proto}
 use Rattle.db_model.specs.declared.tree.Reason.{Reason}
 use Rattle.db_model.specs.Names.{Text}
 use Rattle.db_model.specs.Reason.{reason_word}
-use Rattle.show.specs.declared.labels.BlockLabel.{BlockLabel}
-use Rattle.show.specs.declared.labels.FieldLabel.{FieldLabel}
 use Rattle.show.specs.declared.labels.ProtocolLabels.{ProtocolLabels}
+use Rattle.show.specs.declared.naming.BlockNaming.{BlockNaming}
+use Rattle.show.specs.declared.naming.FieldNaming.{FieldNaming}
 use Rattle.show.specs.Labels.{field_at, block_at, field_shown, labels_of}
 use Rattle.show.specs.Markup.{escaped}
+use Rattle.show.specs.Naming.{begun, named}
 use Rattle.show.specs.NodeFold.{fold_node}
 use Rattle.show.specs.Shown.{group_shown}
 use Rattle.show.specs.Stamps.{timestamp}
 
 -- ---- the lines
-
--- the longname of something, where it has one
-abbrev pub longnamed : Option (List ℕ) → List ℕ
-longnamed None = []
-longnamed (Some longname) = codes " longname=\"" ++ (escaped longname ++ codes "\"")
-
--- the name of something, and its longname right behind it
-unfoldable pub named : Text → Option (List ℕ) → List ℕ
-named name longname = codes " name=\"" ++ (name ++ (codes "\"" ++ longnamed longname))
 
 -- the position and the size of something
 unfoldable pub placed : ℕ → ℕ → List ℕ
@@ -41,6 +33,10 @@ placed pos size = codes " pos=\"" ++ (decimal pos ++ (codes "\" size=\"" ++ (dec
 -- the same with a value in hex
 unfoldable pub valued : ℕ → ℕ → List ℕ → List ℕ
 valued pos size value = placed pos size ++ (codes " value=\"" ++ (encode_lower value ++ codes "\""))
+
+-- the numbers of a line that has begun with its tag and its name, and what stands behind them
+unfoldable pub numbers : ℕ → ℕ → List ℕ → List ℕ
+numbers pos size behind = decimal pos ++ (codes "\" size=\"" ++ (decimal size ++ behind))
 
 -- a field with a value that is shown as a text
 unfoldable pub field_line : List ℕ → ℕ → ℕ → List ℕ → List ℕ → List ℕ
@@ -64,11 +60,11 @@ note_line reason pos = codes "<note reason=\"" ++ (reason_word reason ++ (codes 
 
 -- ---- what is declared has its name; nothing else has one
 
-abbrev pub field_named : Option FieldLabel → List ℕ
+abbrev pub field_named : Option FieldNaming → List ℕ
 field_named None = named [] None
 field_named (Some label) = named label.name label.longname
 
-abbrev pub block_named : Option BlockLabel → List ℕ
+abbrev pub block_named : Option BlockNaming → List ℕ
 block_named None = named [] None
 block_named (Some label) = named label.name label.longname
 
@@ -76,9 +72,18 @@ abbrev pub protocol_named : Option Protocol → List ℕ
 protocol_named None = named [] None
 protocol_named (Some p) = named p.name p.longname
 
+-- how the line of a field begins, and that of a block
+abbrev pub field_begun : Option FieldNaming → List ℕ
+field_begun None = begun (codes "<field") [] None
+field_begun (Some label) = begun (codes "<field") label.name label.longname
+
+abbrev pub block_begun : Option BlockNaming → List ℕ
+block_begun None = begun (codes "<block") [] None
+block_begun (Some label) = begun (codes "<block") label.name label.longname
+
 -- ---- the nodes of the protocol of a number
 
-abbrev pub field_text : Database → Option FieldLabel → ℕ → ℕ → List ℕ → List ℕ
+abbrev pub field_text : Database → Option FieldNaming → ℕ → ℕ → List ℕ → List ℕ
 field_text db label pos size value = field_line (field_named label) pos size value (field_shown db label value)
 
 -- the lines of a node, where those of a block's nodes stand between the block's own

@@ -1,56 +1,119 @@
-ghost use Rattle.std.specs.Prelude.{◌≡◌, ◌++◌, OnOk, codes, decimal};
+ghost use Rattle.std.specs.Prelude.{◌≡◌, ◌++◌, None, OnOk, codes, decimal, map};
 ghost use Rattle.std.specs.Option.{option_copied};
 ghost use Rattle.hex.specs.Hex.{encode_lower};
 ghost use Rattle.pdml_out.specs.Pdml;
+ghost use Rattle.show.specs.Markup.{escaped};
+ghost use Rattle.show.specs.Naming.{begun, named};
+ghost use Rattle.show.specs.Shown;
 
-use db_model::{Bytes, NoMemory, Protocol, Reason};
-use show::{BlockLabel, FieldLabel, TextForm, push, push_hex, push_number, push_written};
+use db_model::{CheckedDb, NoMemory, Protocol, Reason};
+use show::{
+    BlockLabel, FieldLabel, TextForm, push, push_characters, push_hex, push_hex_and_shown,
+    push_named, push_number, template_of,
+};
 
-fn push_longname(text: &mut Vec<u8>, longname: &Option<Bytes>) -> Result<(), NoMemory>
-    ensures { OnOk result (text.new.items ≡ text.old.items ++ Pdml.longnamed longname.now) }
-{
-    match longname {
-        Some(longname) => {
-            push(text, b" longname=\"")?;
-            push_written(text, TextForm::Markup, longname.as_slice())?;
-            push(text, b"\"")
-        }
-        None => Ok(()),
-    }
-}
-
-/// Adds a name, and a longname right behind it where there is one.
-#[tactic(auto, unfolding(crate::specs::Pdml::named))]
-pub fn push_named(text: &mut Vec<u8>, name: &[u8], longname: &Option<Bytes>) -> Result<(), NoMemory>
-    ensures { OnOk result (text.new.items ≡ text.old.items ++ Pdml.named name.now longname.now) }
-{
-    push(text, b" name=\"")?;
-    push(text, name)?;
-    push(text, b"\"")?;
-    push_longname(text, longname)
-}
-
-/// Adds the name of a field, an empty one where it isn't declared. The same for blocks and protocols below.
-pub fn push_field_name(text: &mut Vec<u8>, label: Option<&FieldLabel>) -> Result<(), NoMemory>
+/// Adds the beginning of the line of a field, that of one without a name where it isn't declared. The same for blocks.
+#[tactic(auto, unfolding(show::specs::Naming::begun, show::specs::Naming::named))]
+fn push_field_beginning(text: &mut Vec<u8>, label: Option<&FieldLabel>) -> Result<(), NoMemory>
     ensures { OnOk result (text.new.items ≡
-        text.old.items ++ Pdml.field_named (option_copied label.entry)) }
+        text.old.items ++ Pdml.field_begun (option_copied label.entry)) }
 {
     match label {
-        Some(label) => push_named(text, label.name.as_slice(), &label.longname),
-        None => push_named(text, &[], &None),
+        Some(label) => push(text, label.begun()),
+        None => push(text, b"<field name=\"\" pos=\""),
     }
 }
 
-pub fn push_block_name(text: &mut Vec<u8>, label: Option<&BlockLabel>) -> Result<(), NoMemory>
+#[tactic(auto, unfolding(show::specs::Naming::begun, show::specs::Naming::named))]
+fn push_block_beginning(text: &mut Vec<u8>, label: Option<&BlockLabel>) -> Result<(), NoMemory>
     ensures { OnOk result (text.new.items ≡
-        text.old.items ++ Pdml.block_named (option_copied label.entry)) }
+        text.old.items ++ Pdml.block_begun (option_copied label.entry)) }
 {
     match label {
-        Some(label) => push_named(text, label.name.as_slice(), &label.longname),
-        None => push_named(text, &[], &None),
+        Some(label) => push(text, label.begun()),
+        None => push(text, b"<block name=\"\" pos=\""),
     }
 }
 
+/// Adds a position and a size to a line that has begun, and what stands behind them.
+#[tactic(auto, unfolding(crate::specs::Pdml::numbers))]
+fn push_numbers(text: &mut Vec<u8>, pos: u32, size: u32, behind: &[u8]) -> Result<(), NoMemory>
+    ensures { OnOk result (text.new.items ≡ text.old.items ++ Pdml.numbers pos size behind.now) }
+{
+    push_number(text, u64::from(pos))?;
+    push(text, b"\" size=\"")?;
+    push_number(text, u64::from(size))?;
+    push(text, behind)
+}
+
+/// Adds a field of a declared protocol.
+pub fn push_field(
+    text: &mut Vec<u8>,
+    db: &CheckedDb,
+    label: Option<&FieldLabel>,
+    pos: u32,
+    size: u32,
+    value: &[u8],
+) -> Result<(), NoMemory>
+    ensures { OnOk result (text.new.items ≡
+        text.old.items ++ Pdml.field_text db.now (option_copied label.entry) pos size value.now) }
+{
+    push_field_beginning(text, label)?;
+    push_numbers(text, pos, size, b"\" value=\"")?;
+    push_hex_and_shown(text, b"\" show=\"", template_of(db, label), value)?;
+    push(text, b"\"/>\n")
+}
+
+/// Adds the beginning of the field of the payload.
+#[tactic(auto, unfolding(show::specs::Naming::begun, show::specs::Naming::named))]
+fn push_payload_beginning(text: &mut Vec<u8>) -> Result<(), NoMemory>
+    ensures { OnOk result (text.new.items ≡
+        text.old.items ++ begun (codes "<field") (codes "data") None) }
+{
+    push(text, b"<field name=\"data\" pos=\"")
+}
+
+/// Adds a value of the payload, in hex and as characters.
+fn push_hex_and_characters(text: &mut Vec<u8>, value: &[u8]) -> Result<(), NoMemory>
+    ensures { OnOk result (text.new.items ≡ text.old.items
+        ++ (encode_lower value.now ++ (codes "\" show=\"" ++ escaped (map Shown.character value.now)))) }
+{
+    push_hex(text, value)?;
+    push(text, b"\" show=\"")?;
+    push_characters(text, TextForm::Markup, value)
+}
+
+/// Adds the field of the payload.
+pub fn push_payload_field(
+    text: &mut Vec<u8>,
+    pos: u32,
+    size: u32,
+    value: &[u8],
+) -> Result<(), NoMemory>
+    ensures { OnOk result (text.new.items ≡
+        text.old.items ++ Pdml.field_line (named (codes "data") None) pos size value.now (map Shown.character value.now)) }
+{
+    push_payload_beginning(text)?;
+    push_numbers(text, pos, size, b"\" value=\"")?;
+    push_hex_and_characters(text, value)?;
+    push(text, b"\"/>\n")
+}
+
+/// Adds the line that opens a block.
+pub fn push_block_line(
+    text: &mut Vec<u8>,
+    label: Option<&BlockLabel>,
+    pos: u32,
+    size: u32,
+) -> Result<(), NoMemory>
+    ensures { OnOk result (text.new.items ≡
+        text.old.items ++ Pdml.block_line (Pdml.block_named (option_copied label.entry)) pos size) }
+{
+    push_block_beginning(text, label)?;
+    push_numbers(text, pos, size, b"\">\n")
+}
+
+/// Adds the name of a protocol, an empty one where it isn't declared.
 pub fn push_protocol_name(text: &mut Vec<u8>, protocol: Option<&Protocol>) -> Result<(), NoMemory>
     ensures { OnOk result (text.new.items ≡
         text.old.items ++ Pdml.protocol_named (option_copied protocol.entry)) }
@@ -70,17 +133,6 @@ pub fn push_placed(text: &mut Vec<u8>, pos: u32, size: u32) -> Result<(), NoMemo
     push_number(text, u64::from(pos))?;
     push(text, b"\" size=\"")?;
     push_number(text, u64::from(size))?;
-    push(text, b"\"")
-}
-
-/// Adds a position, a size and a value in hex.
-#[tactic(auto, unfolding(crate::specs::Pdml::valued))]
-pub fn push_valued(text: &mut Vec<u8>, pos: u32, size: u32, value: &[u8]) -> Result<(), NoMemory>
-    ensures { OnOk result (text.new.items ≡ text.old.items ++ Pdml.valued pos size value.now) }
-{
-    push_placed(text, pos, size)?;
-    push(text, b" value=\"")?;
-    push_hex(text, value)?;
     push(text, b"\"")
 }
 

@@ -1,49 +1,10 @@
 ghost use Rattle.std.specs.Prelude.{◌≡◌, ◌++◌, OnOk, codes};
-ghost use Rattle.std.specs.Option.{option_copied};
 ghost use Rattle.show.specs.Labels.{labels_of};
 ghost use Rattle.pdml_out.specs.Pdml;
 
-use crate::lines::{push_block_name, push_field_name, push_note, push_placed, push_valued};
+use crate::lines::{push_block_line, push_field, push_note};
 use db_model::{CheckedDb, NoMemory, Node};
-use show::{BlockLabel, FieldLabel, Labels, TextForm, push, push_field_shown};
-
-/// Adds a field of a declared protocol.
-#[tactic(auto, unfolding(crate::specs::Pdml::field_line))]
-fn push_field(
-    text: &mut Vec<u8>,
-    db: &CheckedDb,
-    label: Option<&FieldLabel>,
-    pos: u32,
-    size: u32,
-    value: &[u8],
-) -> Result<(), NoMemory>
-    ensures { OnOk result (text.new.items ≡
-        text.old.items ++ Pdml.field_text db.now (option_copied label.entry) pos size value.now) }
-{
-    push(text, b"<field")?;
-    push_field_name(text, label)?;
-    push_valued(text, pos, size, value)?;
-    push(text, b" show=\"")?;
-    push_field_shown(text, TextForm::Markup, db, label, value)?;
-    push(text, b"\"/>\n")
-}
-
-/// Adds the line that opens a block.
-#[tactic(auto, unfolding(crate::specs::Pdml::block_line))]
-fn push_block_line(
-    text: &mut Vec<u8>,
-    label: Option<&BlockLabel>,
-    pos: u32,
-    size: u32,
-) -> Result<(), NoMemory>
-    ensures { OnOk result (text.new.items ≡
-        text.old.items ++ Pdml.block_line (Pdml.block_named (option_copied label.entry)) pos size) }
-{
-    push(text, b"<block")?;
-    push_block_name(text, label)?;
-    push_placed(text, pos, size)?;
-    push(text, b">\n")
-}
+use show::{Labels, push};
 
 /// Adds the nodes of the protocol of this number, in order.
 #[cycle(nodes)]

@@ -1,13 +1,12 @@
-ghost use Rattle.std.specs.Prelude.{◌≡◌, ◌++◌, IfOk, OnOk, None, codes, map};
+ghost use Rattle.std.specs.Prelude.{◌≡◌, ◌++◌, IfOk, OnOk, codes};
 ghost use Rattle.std.specs.List.{flat_map};
 ghost use Rattle.show.specs.Labels.{labels_of};
-ghost use Rattle.show.specs.Shown;
 ghost use Rattle.pdml_out.specs.Pdml;
 
-use crate::lines::{push_named, push_placed, push_protocol_name, push_valued};
+use crate::lines::{push_payload_field, push_placed, push_protocol_name};
 use crate::nodes::push_nodes;
 use db_model::{CheckedDb, NoMemory, Node, PAYLOAD, Packet, PacketTree, Proto};
-use show::{Labels, TextForm, push, push_characters, push_number, push_timestamp};
+use show::{Labels, push, push_named, push_number, push_timestamp};
 use std::alloc::Global;
 
 /// Adds a protocol of the database.
@@ -28,20 +27,6 @@ fn push_protocol(
     push(text, b">\n")?;
     push_nodes(text, db, labels, proto.number, proto.nodes.as_slice())?;
     push(text, b"</proto>\n")
-}
-
-/// Adds the field of the payload.
-#[tactic(auto, unfolding(crate::specs::Pdml::field_line))]
-fn push_payload_field(text: &mut Vec<u8>, pos: u32, size: u32, value: &[u8]) -> Result<(), NoMemory>
-    ensures { OnOk result (text.new.items ≡
-        text.old.items ++ Pdml.field_line (Pdml.named (codes "data") None) pos size value.now (map Shown.character value.now)) }
-{
-    push(text, b"<field")?;
-    push_named(text, b"data", &None)?;
-    push_valued(text, pos, size, value)?;
-    push(text, b" show=\"")?;
-    push_characters(text, TextForm::Markup, value)?;
-    push(text, b"\"/>\n")
 }
 
 fn push_payload_node(text: &mut Vec<u8>, node: &Node) -> Result<(), NoMemory>

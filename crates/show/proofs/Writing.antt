@@ -1,7 +1,7 @@
 -- How digits, and texts in parts, are written.
 use Rattle.std.specs.Prelude.{◌≡◌, ℕ, zero, suc, ◌+◌, ◌/◌, ◌%◌, ◌^◌, ◌<◌, ◌≤◌, List, [], ◌∷◌, ◌++◌, map, decimal, slice_index}
 use Rattle.std.specs.List.{flat_map}
-use Rattle.std.proofs.Common.{refl, sym, ap, ◌∙◌, arith}
+use Rattle.std.proofs.Common.{refl, sym, ap, ◌∙◌, arith, append_assoc}
 use Rattle.std.proofs.lemmas.Fmt.{decimal_by_steps}
 use Rattle.std.proofs.lemmas.Grind.{flat_map-append}
 use Rattle.hex.specs.Hex.{lower_digits, encode_with, encode_lower}
@@ -85,3 +85,7 @@ each_written form f b = written form (f b ∷ [])
 pub written-map : (form : TextForm) (f : ℕ → ℕ) (bs : List ℕ) → flat_map (each_written form f) bs ≡ written form (map f bs)
 written-map form f [] = sym (written-empty form)
 written-map form f (b ∷ bs) = ap (λ (l : List ℕ). written form (f b ∷ []) ++ l) (written-map form f bs) ∙ sym (written-append form (f b ∷ []) (map f bs))
+
+-- what stands behind a text that was added
+pub onto : (before added now rest : List ℕ) → now ≡ before ++ added → now ++ rest ≡ before ++ (added ++ rest)
+onto before added now rest e = ap (λ (l : List ℕ). l ++ rest) e ∙ append_assoc before added rest

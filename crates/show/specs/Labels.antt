@@ -12,19 +12,19 @@ use Rattle.db_model.specs.declared.element.Element.TheOpen as layer
 use Rattle.db_model.specs.Folds.{CaseOf, BranchOf, ElementOf, fold_element}
 use Rattle.db_model.specs.Names.{Text, place}
 use Rattle.db_model.specs.Numbering.{fields_in, blocks_in}
-use Rattle.show.specs.declared.labels.BlockLabel.{BlockLabel}
-use Rattle.show.specs.declared.labels.FieldLabel.{FieldLabel}
 use Rattle.show.specs.declared.labels.ProtocolLabels.{ProtocolLabels}
+use Rattle.show.specs.declared.naming.BlockNaming.{BlockNaming}
+use Rattle.show.specs.declared.naming.FieldNaming.{FieldNaming}
 use Rattle.show.specs.Shown.{shown}
 
 -- the place of the first show template of a name
 abbrev pub template_place : List ShowTemplate → Text → ℕ
 template_place templates name = place name (map (λ t. t.name) templates)
 
-abbrev pub field_label : List ShowTemplate → Text → Option (List ℕ) → Option Text → FieldLabel
+abbrev pub field_label : List ShowTemplate → Text → Option (List ℕ) → Option Text → FieldNaming
 field_label templates name longname show = record { name = name; longname = longname; template = option_map (template_place templates) show }
 
-abbrev pub block_label : Text → Option (List ℕ) → BlockLabel
+abbrev pub block_label : Text → Option (List ℕ) → BlockNaming
 block_label name longname = record { name = name; longname = longname }
 
 -- ---- the labels in an element, in the order of the text
@@ -32,10 +32,10 @@ block_label name longname = record { name = name; longname = longname }
 abbrev pub none : ProtocolLabels
 none = record { fields = []; blocks = [] }
 
-abbrev pub a_field : FieldLabel → ProtocolLabels
+abbrev pub a_field : FieldNaming → ProtocolLabels
 a_field label = record { fields = label ∷ []; blocks = [] }
 
-abbrev pub a_block : BlockLabel → ProtocolLabels
+abbrev pub a_block : BlockNaming → ProtocolLabels
 a_block label = record { fields = []; blocks = label ∷ [] }
 
 abbrev pub then : ProtocolLabels → ProtocolLabels → ProtocolLabels
@@ -95,20 +95,20 @@ labels_of db = map (labels_of_protocol db.show_templates) db.protocols
 
 -- ---- labels by number
 
-abbrev pub fields_at : Option ProtocolLabels → List FieldLabel
+abbrev pub fields_at : Option ProtocolLabels → List FieldNaming
 fields_at None = []
 fields_at (Some l) = l.fields
 
-abbrev pub blocks_at : Option ProtocolLabels → List BlockLabel
+abbrev pub blocks_at : Option ProtocolLabels → List BlockNaming
 blocks_at None = []
 blocks_at (Some l) = l.blocks
 
 -- the label of a field of a protocol
-abbrev pub field_at : List ProtocolLabels → ℕ → ℕ → Option FieldLabel
+abbrev pub field_at : List ProtocolLabels → ℕ → ℕ → Option FieldNaming
 field_at labels protocol number = slice_get (fields_at (slice_get labels protocol)) number
 
 -- the label of a block of a protocol
-abbrev pub block_at : List ProtocolLabels → ℕ → ℕ → Option BlockLabel
+abbrev pub block_at : List ProtocolLabels → ℕ → ℕ → Option BlockNaming
 block_at labels protocol number = slice_get (blocks_at (slice_get labels protocol)) number
 
 -- ---- how a field is shown
@@ -118,10 +118,10 @@ template_at templates None = None
 template_at templates (Some n) = slice_get templates n
 
 -- the template by which a field is shown
-abbrev pub template_of : Database → Option FieldLabel → Option ShowTemplate
+abbrev pub template_of : Database → Option FieldNaming → Option ShowTemplate
 template_of db None = None
 template_of db (Some label) = template_at db.show_templates label.template
 
 -- the value of a field of this label
-abbrev pub field_shown : Database → Option FieldLabel → List ℕ → List ℕ
+abbrev pub field_shown : Database → Option FieldNaming → List ℕ → List ℕ
 field_shown db label value = shown (template_of db label) value

@@ -3,7 +3,8 @@ ghost use Rattle.std.specs.Option.{option_map};
 ghost use Rattle.db_model.specs.Numbering.{blocks_in, fields_in};
 ghost use Rattle.show.specs.Labels.{a_block, a_field, block_label, field_label, labels_in, labels_of_blocks, labels_of_cases, labels_of_element, labels_of_other, labels_of_protocol, none, template_place, then};
 
-use crate::labels::{BlockLabel, FieldLabel, ProtocolLabels};
+use crate::labels::ProtocolLabels;
+use crate::naming::{BlockLabel, BlockNaming, FieldLabel, FieldNaming};
 use db_model::{
     Branch, Bytes, Case, Element, Name, NamedBlock, NoMemory, Protocol, Sequence, ShowTemplate,
     place_of,
@@ -77,10 +78,11 @@ fn add_block_label(
 ) -> Result<(), NoMemory>
     ensures { OnOk result (labels.new ≡ then labels.old (a_block (block_label name.now longname.now))) }
 {
-    labels.blocks.push(BlockLabel {
+    let naming = BlockNaming {
         name: Name::copy_of(alloc, name.as_slice())?,
         longname: copied(longname)?,
-    })
+    };
+    labels.blocks.push(BlockLabel::of(alloc, naming)?)
 }
 
 fn add_field_label(
@@ -94,11 +96,12 @@ fn add_field_label(
     ensures { OnOk result (labels.new ≡
         then labels.old (a_field (field_label templates.now name.now longname.now show.now))) }
 {
-    labels.fields.push(FieldLabel {
+    let naming = FieldNaming {
         name: Name::copy_of(alloc, name.as_slice())?,
         longname: copied(longname)?,
         template: place_of_template(templates, show),
-    })
+    };
+    labels.fields.push(FieldLabel::of(alloc, naming)?)
 }
 
 /// Puts labels behind those that are there. The same for all functions below.

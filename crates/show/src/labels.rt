@@ -7,26 +7,11 @@ ghost use Rattle.show.specs.Shown.{IsShowable};
 
 use crate::label_walk::protocol_labels;
 use crate::markup::TextForm;
+use crate::naming::{BlockLabel, FieldLabel};
 use crate::value::push_shown;
-use db_model::{Bytes, CheckedDb, Name, NoMemory, Sequence, ShowTemplate};
+use db_model::{CheckedDb, NoMemory, Sequence, ShowTemplate};
 use std::alloc::Global;
 use std::marker::Model;
-
-/// What a field is called and by what it is shown.
-#[derive(Drop)]
-pub struct FieldLabel {
-    pub name: Name,
-    pub longname: Option<Bytes>,
-    /// The place of its template among the show templates of its database.
-    pub template: Option<usize>,
-}
-
-/// What a block is called.
-#[derive(Drop)]
-pub struct BlockLabel {
-    pub name: Name,
-    pub longname: Option<Bytes>,
-}
 
 /// The labels of the fields and of the blocks of one protocol, by their numbers.
 #[derive(Drop)]
@@ -53,6 +38,11 @@ impl Model for Labels {
 
     ghost view = { λ l. l.protocols };
 }
+
+/// What threads may share.
+trait Shared: Send + Sync {}
+
+impl Shared for Labels {}
 
 impl Labels {
     pub fn of(alloc: Global, db: &CheckedDb) -> Result<Labels, NoMemory>
@@ -94,7 +84,7 @@ pub fn template_of<'a>(db: &'a CheckedDb, label: Option<&FieldLabel>) -> Option<
     ensures showable { IsShowable (option_copied result) }
 {
     match label {
-        Some(label) => match label.template {
+        Some(label) => match label.naming().template {
             Some(place) => db.database().show_templates.get(place),
             None => None,
         },

@@ -6,10 +6,12 @@
 mod label_walk;
 mod labels;
 mod markup;
+mod naming;
 mod text;
 mod value;
 
-pub use labels::{BlockLabel, FieldLabel, Labels, ProtocolLabels, push_field_shown, template_of};
+pub use labels::{Labels, ProtocolLabels, push_field_shown, template_of};
 pub use markup::{TextForm, push_written};
+pub use naming::{BlockLabel, BlockNaming, FieldLabel, FieldNaming, push_named};
 pub use text::{push, push_hex, push_number, push_timestamp};
-pub use value::{push_characters, push_shown, show_value};
+pub use value::{push_characters, push_hex_and_shown, push_shown, show_value};

@@ -36,7 +36,7 @@ fn push_one(text: &mut Vec<u8>, byte: u8) -> Result<(), NoMemory>
 
 /// Whether a byte is a sign of the markup.
 #[tactic(auto, unfolding(crate::specs::Markup::entity))]
-fn is_sign(byte: u8) -> bool
+pub fn is_sign(byte: u8) -> bool
     ensures { result ≡ false → Markup.entity byte ≡ byte ∷ [] }
 {
     matches!(byte, b'&' | b'<' | b'>' | b'"')

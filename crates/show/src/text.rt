@@ -1,9 +1,8 @@
-ghost use Rattle.std.specs.Prelude.{◌≡◌, ◌+◌, ◌*◌, ◌++◌, OnOk, IfSome, decimal};
-ghost use Rattle.hex.specs.Hex.{encode_lower};
+ghost use Rattle.std.specs.Prelude.{◌≡◌, ◌+◌, ◌*◌, ◌<◌, ◌≤◌, ◌++◌, OnOk, decimal, slice_index, vec_capacity, vec_len};
+ghost use Rattle.hex.specs.Hex.{encode_lower, lower_digits};
 ghost use Rattle.show.specs.Stamps;
 
 use db_model::{NoMemory, SECOND, Stamp};
-use hex::encode_to_slice;
 use itoa::Buffer;
 
 /// Adds bytes as they are.
@@ -14,32 +13,84 @@ pub fn push(text: &mut Vec<u8>, bytes: &[u8]) -> Result<(), NoMemory>
     Ok(())
 }
 
-/// Adds a number in decimal.
+/// The digit of a number below ten.
+fn digit(number: u64) -> u8
+    requires { number < 10 }
+    ensures { result ≡ 48 + number }
+{
+    b'0' + number as u8
+}
+
+/// Adds a number below 1,000 in decimal.
+#[tactic(auto, using(crate::proofs::Digits::one_digit, crate::proofs::Digits::two_digits, crate::proofs::Digits::three_digits))]
+fn push_short(text: &mut Vec<u8>, number: u64) -> Result<(), NoMemory>
+    requires { number < 1000 }
+    ensures { OnOk result (text.new.items ≡ text.old.items ++ decimal number) }
+{
+    let tens = number / 10;
+    if number < 10 {
+        push(text, &[digit(number)])
+    } else if number < 100 {
+        push(text, &[digit(tens), digit(number % 10)])
+    } else {
+        push(text, &[digit(tens / 10), digit(tens % 10), digit(number % 10)])
+    }
+}
+
+/// Adds a number in decimal. Most numbers of a packet are short ones.
 pub fn push_number(text: &mut Vec<u8>, number: u64) -> Result<(), NoMemory>
     ensures { OnOk result (text.new.items ≡ text.old.items ++ decimal number) }
 {
+    if number < 1000 {
+        return push_short(text, number);
+    }
     let mut buffer = Buffer::new();
     push(text, buffer.format(number).as_bytes())
 }
 
-/// Where two digits for each of so many bytes end, None where no list is so long.
-fn end_of_digits(start: usize, count: usize) -> Option<usize>
-    ensures { IfSome result (λ end. end ≡ start + 2 * count) }
+const LOWER_DIGITS: [u8; 16] = *b"0123456789abcdef";
+
+/// The digit of a number below 16.
+fn hex_digit(number: u8) -> u8
+    requires { number < 16 }
+    ensures { result ≡ slice_index lower_digits number }
 {
-    start.checked_add(count)?.checked_add(count)
+    LOWER_DIGITS[number as usize]
 }
 
-/// Adds two lower-case digits for each byte.
+/// Makes room for two digits for each of so many bytes.
+fn make_room(text: &mut Vec<u8>, count: usize) -> Result<(), NoMemory>
+    ensures same { text.new.items ≡ text.old.items }
+    ensures room { OnOk result (vec_len text.new + 2 * count ≤ vec_capacity text.new) }
+{
+    match count.checked_mul(2) {
+        Some(room) => Ok(text.reserve(room)?),
+        None => Err(NoMemory),
+    }
+}
+
+/// Adds two lower-case digits for each byte, with the room asked once.
 pub fn push_hex(text: &mut Vec<u8>, bytes: &[u8]) -> Result<(), NoMemory>
     ensures { OnOk result (text.new.items ≡ text.old.items ++ encode_lower bytes.now) }
 {
+    make_room(text, bytes.len())?;
+    for byte in bytes {
+        text.push_reserved(hex_digit(*byte / 16));
+        text.push_reserved(hex_digit(*byte % 16));
+    }
+    Ok(())
+}
+
+/// Adds the digits of bytes, a text, and the same digits once more, which are made only once.
+pub fn push_hex_twice(text: &mut Vec<u8>, bytes: &[u8], between: &[u8]) -> Result<(), NoMemory>
+    ensures { OnOk result (text.new.items ≡
+        text.old.items ++ (encode_lower bytes.now ++ (between.now ++ encode_lower bytes.now))) }
+{
     let start = text.len();
-    let Some(end) = end_of_digits(start, bytes.len()) else {
-        return Err(NoMemory);
-    };
-    text.resize(end, 0)?;
-    // It fits, since there are two places for each byte.
-    let _ = encode_to_slice(bytes, &mut text[start..]);
+    push_hex(text, bytes)?;
+    let end = text.len();
+    push(text, between)?;
+    text.extend_from_within(start..end)?;
     Ok(())
 }
 

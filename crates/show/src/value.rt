@@ -1,13 +1,15 @@
-ghost use Rattle.std.specs.Prelude.{◌≡◌, ◌++◌, ◌<◌, ◌≤◌, Some, length, map, IfOk, OnOk};
+ghost use Rattle.std.specs.Prelude.{◌≡◌, ◌++◌, ◌∷◌, [], ◌<◌, ◌≤◌, Some, length, map, take, IfOk, IsTrue, OnOk};
 ghost use Rattle.std.specs.List.{join_by};
 ghost use Rattle.std.specs.Option.{option_copied};
 ghost use Rattle.db_model.specs.Numbers;
-ghost use Rattle.show.specs.Markup.{written};
+ghost use Rattle.hex.specs.Hex.{encode_lower};
+ghost use Rattle.show.specs.declared.markup.TextForm.{TextForm};
+ghost use Rattle.show.specs.Markup.{escaped, written};
 ghost use Rattle.show.specs.Shown;
 ghost use Rattle.show.specs.Shown.{IsShowable, cut, group_shown, shown};
 
-use crate::markup::{TextForm, push_byte, push_written};
-use crate::text::{push_hex, push_number};
+use crate::markup::{TextForm, is_sign, push_byte, push_written};
+use crate::text::{push, push_hex, push_hex_twice, push_number};
 use db_model::{NoMemory, ShowTemplate, ShowType};
 use std::alloc::Global;
 
@@ -130,8 +132,29 @@ fn character(byte: u8) -> u8
     }
 }
 
-/// Adds a character for each byte: the byte itself from 0x20 to 0x7E, else a point.
-pub fn push_characters(text: &mut Vec<u8>, form: TextForm, bytes: &[u8]) -> Result<(), NoMemory>
+/// Whether a byte is written as it is: shown as itself, and no sign of the markup.
+#[tactic(auto, using(crate::proofs::Runs::itself))]
+fn is_itself(byte: u8) -> bool
+    ensures { IsTrue result → (form : TextForm) → written form (Shown.character byte ∷ []) ≡ byte ∷ [] }
+{
+    character(byte) == byte && !is_sign(byte)
+}
+
+/// How many bytes in front are written as they are.
+fn run_of(bytes: &[u8]) -> usize
+    ensures within { result ≤ length bytes.now }
+    ensures same { (form : TextForm) →
+        written form (map Shown.character (take result bytes.now)) ≡ take result bytes.now }
+{
+    for i in 0..bytes.len() {
+        if !is_itself(bytes[i]) {
+            return i;
+        }
+    }
+    bytes.len()
+}
+
+fn push_each_character(text: &mut Vec<u8>, form: TextForm, bytes: &[u8]) -> Result<(), NoMemory>
     ensures { OnOk result (text.new.items ≡
         text.old.items ++ written form (map Shown.character bytes.now)) }
 {
@@ -139,4 +162,43 @@ pub fn push_characters(text: &mut Vec<u8>, form: TextForm, bytes: &[u8]) -> Resu
         push_byte(text, form, character(*byte))?;
     }
     Ok(())
+}
+
+/// Adds a character for each byte: the byte itself from 0x20 to 0x7E, else a point. What is written as it is is added
+/// by runs.
+pub fn push_characters(text: &mut Vec<u8>, form: TextForm, bytes: &[u8]) -> Result<(), NoMemory>
+    ensures { OnOk result (text.new.items ≡
+        text.old.items ++ written form (map Shown.character bytes.now)) }
+{
+    let mut rest = bytes;
+    while !rest.is_empty() {
+        let (run, behind) = rest.split_at(run_of(rest));
+        let (next, left) = behind.split_at(behind.len().min(1));
+        push(text, run)?;
+        push_each_character(text, form, next)?;
+        rest = left;
+    }
+    Ok(())
+}
+
+/// Adds bytes in hex, a text, and the bytes as they are shown as a value of the markup. In plain hex that is the same
+/// text once more.
+pub fn push_hex_and_shown(
+    text: &mut Vec<u8>,
+    between: &[u8],
+    template: Option<&ShowTemplate>,
+    bytes: &[u8],
+) -> Result<(), NoMemory>
+    requires { IsShowable (option_copied template) }
+    ensures { OnOk result (text.new.items ≡ text.old.items
+        ++ (encode_lower bytes.now ++ (between.now ++ escaped (shown (option_copied template.entry) bytes.now)))) }
+{
+    match template {
+        Some(template) => {
+            push_hex(text, bytes)?;
+            push(text, between)?;
+            push_by(text, TextForm::Markup, template, bytes)
+        }
+        None => push_hex_twice(text, bytes, between),
+    }
 }

@@ -1,8 +1,8 @@
 use Rattle.std.proofs.Common.{◌≡◌, List, ℕ, Option, ◌++◌, OnOk, codes, sym, ap, subst, ◌∙◌}
 use Rattle.show.specs.Markup.{escaped}
-use Rattle.pdml_out.specs.Pdml.{longnamed}
-use Rattle.pdml_out.proofs.Chains.{onto}
-use Rattle.pdml_out.proofs.lines.push_longname.Goals as goal
+use Rattle.show.specs.Naming.{longnamed}
+use Rattle.show.proofs.Writing.{onto}
+use Rattle.show.proofs.naming.push_longname.Goals as goal
 
 pub returns-in_ok-push_written-in-Some : goal.returns-in_ok-push_written-in-Some
 returns-in_ok-push_written-in-Some c =
