@@ -41,7 +41,7 @@ fn labels_are_none(alloc: Global, db: &CheckedDb) -> Result<bool, NoMemory> {
 
 fn pieces_are_none(alloc: Global, db: &CheckedDb) -> Result<bool, NoMemory> {
     let summaries = Summaries::of(alloc, db)?;
-    Ok(summaries.pieces_of(0).is_empty())
+    Ok(summaries.contents_of(0, 0).is_empty())
 }
 
 fn has_nothing(alloc: Global, db: &CheckedDb) -> Result<bool, NoMemory> {

@@ -11,7 +11,7 @@ use Rattle.db_model.specs.declared.tree.Node as node
 use Rattle.db_model.specs.declared.tree.Node.{Node}
 use Rattle.db_model.specs.declared.tree.Reason.{Reason}
 use Rattle.db_model.specs.Names.{Text}
-use Rattle.show.specs.declared.labels.FieldLabel.{FieldLabel}
+use Rattle.show.specs.declared.naming.FieldNaming.{FieldNaming}
 use Rattle.show.specs.declared.labels.ProtocolLabels.{ProtocolLabels}
 use Rattle.show.specs.Labels.{field_at}
 use Rattle.show.proofs.NodeLayers.{fold_block}
@@ -75,11 +75,11 @@ module _ (labels : List ProtocolLabels) (q : ℕ) (name : Text) where
   none_named f e = ap (λ (b : Bool). last_or None (if b then f ∷ [] else [])) e
 
   -- a field that was looked at by its label
-  pub field_named : (n : Node) (found : Option FieldLabel) (field pos size : ℕ) (value : List ℕ) → found ≡ field_at labels q field → n ≡ node.Field field pos size value → is_named name found ≡ true → Some (field, value) ≡ last_in_node labels q name n
+  pub field_named : (n : Node) (found : Option FieldNaming) (field pos size : ℕ) (value : List ℕ) → found ≡ field_at labels q field → n ≡ node.Field field pos size value → is_named name found ≡ true → Some (field, value) ≡ last_in_node labels q name n
   field_named n found field pos size value label e is =
       sym (ap (last_in_node labels q name) e ∙ in_field field pos size value ∙ one_named (field, value) (ap (is_named name) (sym label) ∙ is))
 
-  pub field_other : (n : Node) (found : Option FieldLabel) (field pos size : ℕ) (value : List ℕ) → found ≡ field_at labels q field → n ≡ node.Field field pos size value → is_named name found ≡ false → None ≡ last_in_node labels q name n
+  pub field_other : (n : Node) (found : Option FieldNaming) (field pos size : ℕ) (value : List ℕ) → found ≡ field_at labels q field → n ≡ node.Field field pos size value → is_named name found ≡ false → None ≡ last_in_node labels q name n
   field_other n found field pos size value label e is =
       sym (ap (last_in_node labels q name) e ∙ in_field field pos size value ∙ none_named (field, value) (ap (is_named name) (sym label) ∙ is))
 

@@ -1,3 +1,4 @@
+pub mod BySection
 pub mod Escaping
 pub mod LastField
 pub mod SectionLines

@@ -5,7 +5,7 @@ use Rattle.db_model.specs.declared.tree.Node.{Node, Node-F}
 use Rattle.db_model.specs.declared.tree.Node.TheOpen as layer
 use Rattle.db_model.specs.Names.{Text}
 use Rattle.psml_out.specs.declared.last_field.FieldValue.{FieldValue}
-use Rattle.show.specs.declared.labels.FieldLabel.{FieldLabel}
+use Rattle.show.specs.declared.naming.FieldNaming.{FieldNaming}
 use Rattle.show.specs.declared.labels.ProtocolLabels.{ProtocolLabels}
 use Rattle.show.specs.Labels.{field_at}
 use Rattle.show.specs.NodeFold.{fold_node}
@@ -30,7 +30,7 @@ abbrev pub fields_in : List Node → List Field
 fields_in nodes = flat_map fields_in_node nodes
 
 -- a declared field has its name
-abbrev pub is_named : Text → Option FieldLabel → Bool
+abbrev pub is_named : Text → Option FieldNaming → Bool
 is_named name None = false
 is_named name (Some label) = bytes_eq label.name name
 

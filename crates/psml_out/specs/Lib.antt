@@ -1,3 +1,4 @@
 pub mod Fields
 pub mod Psml
+pub mod Source
 pub mod Summaries

@@ -12,7 +12,7 @@ use Rattle.psml_out.specs.declared.summaries.Content.{Content}
 use Rattle.psml_out.specs.declared.summaries.Content.TheVariants as content
 use Rattle.psml_out.specs.declared.summaries.Piece.{Piece}
 use Rattle.psml_out.specs.Fields.{Field, last_field}
-use Rattle.psml_out.specs.Summaries.{sections, pieces_of, summaries_of}
+use Rattle.psml_out.specs.Summaries.{sections, pieces_of}
 use Rattle.show.specs.Labels.{field_at, field_shown, labels_of}
 use Rattle.show.specs.Markup.{escaped}
 use Rattle.show.specs.Stamps.{timestamp}
@@ -47,7 +47,7 @@ piece_text db packet section p piece = if piece.section == section then content_
 
 -- what the summary of a protocol of the tree adds to it
 unfoldable pub proto_text : Database → Packet → ℕ → Proto → List ℕ
-proto_text db packet section p = flat_map (piece_text db packet section p) (pieces_of (summaries_of db) p.number)
+proto_text db packet section p = flat_map (piece_text db packet section p) (pieces_of db p.number)
 
 -- the text of the section of a number: what the protocols of the tree add, one behind another
 unfoldable pub section_text : Database → Packet → List Proto → ℕ → List ℕ

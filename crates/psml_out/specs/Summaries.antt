@@ -1,5 +1,6 @@
 -- What a database says of its summaries: the sections, and for each sum template what it adds to the texts of which sections.
-use Rattle.std.specs.Prelude.{ℕ, List, [], ◌∷◌, ◌++◌, map, slice_get, unwrap_or, Option, Some, None}
+use Rattle.std.specs.Prelude.{ℕ, ◌==◌, if◌then◌else◌, List, [], ◌∷◌, ◌++◌, length, map, slice_get, unwrap_or, Option, Some, None}
+use Rattle.std.specs.List.{range_with_len}
 use Rattle.std.specs.Option.{option_flatten, option_map}
 use Rattle.db_model.specs.declared.database.Database.{Database}
 use Rattle.db_model.specs.declared.database.SectionDecl.{SectionDecl}
@@ -63,13 +64,35 @@ template_place templates name = place name (map (λ t. t.name) templates)
 abbrev pub template_places : Database → List (Option ℕ)
 template_places db = map (λ p. option_map (template_place db.sum_templates) p.showsum) db.protocols
 
-unfoldable pub summaries_of : Database → Summaries
-summaries_of db = record { templates = map (template_pieces (sections db)) db.sum_templates; protocols = template_places db }
-
 abbrev pub pieces_at : List (List Piece) → Option ℕ → List Piece
 pieces_at templates None = []
 pieces_at templates (Some place) = unwrap_or (slice_get templates place) []
 
 -- the pieces of the protocol of a number, none where it has no sum template
-abbrev pub pieces_of : Summaries → ℕ → List Piece
-pieces_of summaries number = pieces_at summaries.templates (option_flatten (slice_get summaries.protocols number))
+abbrev pub pieces_of : Database → ℕ → List Piece
+pieces_of db number = pieces_at (map (template_pieces (sections db)) db.sum_templates) (option_flatten (slice_get (template_places db) number))
+
+-- ---- the pieces by section
+
+-- what pieces add to the section of a number, in their order
+abbrev pub contents_for : ℕ → List Piece → List Content
+contents_for section [] = []
+contents_for section (p ∷ ps) = if p.section == section then p.content ∷ contents_for section ps else contents_for section ps
+
+-- what pieces add to each of so many sections
+abbrev pub by_section : ℕ → List Piece → List (List Content)
+by_section count ps = map (λ section. contents_for section ps) (range_with_len 0 count)
+
+abbrev pub template_sections : List SectionDecl → SumTemplate → List (List Content)
+template_sections declared t = by_section (length declared) (template_pieces declared t)
+
+unfoldable pub summaries_of : Database → Summaries
+summaries_of db = record { templates = map (template_sections (sections db)) db.sum_templates; protocols = template_places db }
+
+abbrev pub sections_at : List (List (List Content)) → Option ℕ → List (List Content)
+sections_at templates None = []
+sections_at templates (Some place) = unwrap_or (slice_get templates place) []
+
+-- what the protocol of a number adds to the section of a number
+abbrev pub contents_of : Summaries → ℕ → ℕ → List Content
+contents_of summaries number section = unwrap_or (slice_get (sections_at summaries.templates (option_flatten (slice_get summaries.protocols number))) section) []

@@ -16,7 +16,7 @@ fn is_named(label: Option<&FieldLabel>, name: &[u8]) -> bool
     ensures { result ≡ Fields.is_named name.now (option_copied label.entry) }
 {
     match label {
-        Some(label) => label.name.as_slice() == name,
+        Some(label) => label.naming().name.as_slice() == name,
         None => false,
     }
 }

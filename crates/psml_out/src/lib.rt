@@ -6,7 +6,8 @@
 mod last_field;
 mod packet;
 mod pieces;
+mod source;
 mod summaries;
 
 pub use packet::{closing, opening, packet_text, push_packet_text};
-pub use summaries::{Content, Piece, Pieces, Summaries};
+pub use summaries::{Content, Contents, Summaries};

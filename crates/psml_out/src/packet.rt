@@ -1,11 +1,13 @@
-ghost use Rattle.std.specs.Prelude.{◌≡◌, ◌++◌, IfOk, OnOk};
+ghost use Rattle.std.specs.Prelude.{◌≡◌, ◌<◌, ◌++◌, IfOk, OnOk, length};
 ghost use Rattle.std.specs.List.{flat_map};
 ghost use Rattle.show.specs.Labels.{labels_of};
 ghost use Rattle.show.specs.Markup.{escaped};
 ghost use Rattle.psml_out.specs.Psml;
-ghost use Rattle.psml_out.specs.Summaries.{summaries_of};
+ghost use Rattle.psml_out.specs.Source.{IsOwn};
+ghost use Rattle.psml_out.specs.Summaries.{sections, summaries_of};
 
 use crate::pieces::push_proto;
+use crate::source::Source;
 use crate::summaries::{Summaries, sections_of};
 use db_model::{CheckedDb, NoMemory, Packet, PacketTree, Proto, SectionDecl};
 use show::{Labels, TextForm, push, push_written};
@@ -15,20 +17,17 @@ use std::alloc::Global;
 #[tactic(auto, unfolding(crate::specs::Psml::section_text))]
 fn push_section_text(
     text: &mut Vec<u8>,
-    db: &CheckedDb,
-    labels: &Labels,
-    summaries: &Summaries,
-    packet: &Packet,
+    source: &Source,
     section: usize,
     tree: &[Proto],
 ) -> Result<(), NoMemory>
-    requires labels { labels.now ≡ labels_of db.now }
-    requires summaries { summaries.now ≡ summaries_of db.now }
-    ensures { OnOk result (text.new.items ≡
-        text.old.items ++ escaped (Psml.section_text db.now packet.now tree.now section)) }
+    requires own { IsOwn source.now }
+    requires section { section < length (sections source.now.db.now) }
+    ensures { OnOk result (text.new.items ≡ text.old.items
+        ++ escaped (Psml.section_text source.now.db.now source.now.packet.now tree.now section)) }
 {
     for proto in tree {
-        push_proto(text, db, labels, summaries, packet, section, proto)?;
+        push_proto(text, source, section, proto)?;
     }
     Ok(())
 }
@@ -36,42 +35,37 @@ fn push_section_text(
 /// Adds the line of the section of this number.
 fn push_section(
     text: &mut Vec<u8>,
-    db: &CheckedDb,
-    labels: &Labels,
-    summaries: &Summaries,
-    packet: &Packet,
+    source: &Source,
     section: usize,
     tree: &[Proto],
 ) -> Result<(), NoMemory>
-    requires labels { labels.now ≡ labels_of db.now }
-    requires summaries { summaries.now ≡ summaries_of db.now }
-    ensures { OnOk result (text.new.items ≡
-        text.old.items ++ Psml.section_line (Psml.section_text db.now packet.now tree.now section)) }
+    requires own { IsOwn source.now }
+    requires section { section < length (sections source.now.db.now) }
+    ensures { OnOk result (text.new.items ≡ text.old.items
+        ++ Psml.section_line (Psml.section_text source.now.db.now source.now.packet.now tree.now section)) }
 {
     push(text, b"<section>")?;
-    push_section_text(text, db, labels, summaries, packet, section, tree)?;
+    push_section_text(text, source, section, tree)?;
     push(text, b"</section>\n")
 }
 
 #[tactic(auto, using(crate::proofs::SectionLines::one_more))]
-fn push_sections(
-    text: &mut Vec<u8>,
-    db: &CheckedDb,
-    labels: &Labels,
-    summaries: &Summaries,
-    packet: &Packet,
-    tree: &[Proto],
-) -> Result<(), NoMemory>
-    requires labels { labels.now ≡ labels_of db.now }
-    requires summaries { summaries.now ≡ summaries_of db.now }
-    ensures { OnOk result (text.new.items ≡
-        text.old.items ++ flat_map Psml.section_line (Psml.section_texts db.now packet.now tree.now)) }
+fn push_sections(text: &mut Vec<u8>, source: &Source, tree: &[Proto]) -> Result<(), NoMemory>
+    requires { IsOwn source.now }
+    ensures { OnOk result (text.new.items ≡ text.old.items
+        ++ flat_map Psml.section_line (Psml.section_texts source.now.db.now source.now.packet.now tree.now)) }
 {
-    let count = sections_of(db.database()).len();
+    let count = section_count(source.db);
     for section in 0..count {
-        push_section(text, db, labels, summaries, packet, section, tree)?;
+        push_section(text, source, section, tree)?;
     }
     Ok(())
+}
+
+fn section_count(db: &CheckedDb) -> usize
+    ensures { result ≡ length (sections db.now) }
+{
+    sections_of(db.database()).len()
 }
 
 /// Adds the text of a packet with its tree. A buffer that is cleared and handed in again keeps its room.
@@ -90,7 +84,13 @@ pub fn push_packet_text(
         text.old.items ++ Psml.packet_text db.now packet.now tree.now) }
 {
     push(text, b"<packet>\n")?;
-    push_sections(text, db, labels, summaries, packet, tree.as_slice())?;
+    let source = Source {
+        db,
+        labels,
+        summaries,
+        packet,
+    };
+    push_sections(text, &source, tree.as_slice())?;
     push(text, b"</packet>\n")
 }
 

@@ -1,15 +1,16 @@
-ghost use Rattle.std.specs.Prelude.{◌≡◌, ◌++◌, OnOk, decimal};
+ghost use Rattle.std.specs.Prelude.{◌≡◌, ◌<◌, ◌++◌, OnOk, decimal, length};
 ghost use Rattle.std.specs.List.{flat_map};
-ghost use Rattle.show.specs.Labels.{labels_of};
 ghost use Rattle.show.specs.Markup.{escaped};
 ghost use Rattle.show.specs.Stamps.{timestamp};
 ghost use Rattle.psml_out.specs.Psml;
-ghost use Rattle.psml_out.specs.Summaries.{summaries_of};
+ghost use Rattle.psml_out.specs.Source.{IsOwn};
+ghost use Rattle.psml_out.specs.Summaries.{sections};
 
 use crate::last_field::last_field;
-use crate::summaries::{Content, Piece, Summaries};
-use db_model::{CheckedDb, HeaderPart, NoMemory, Packet, Proto, Stamp};
-use show::{Labels, TextForm, push_field_shown, push_number, push_timestamp, push_written};
+use crate::source::Source;
+use crate::summaries::Content;
+use db_model::{HeaderPart, NoMemory, Packet, Proto, Stamp};
+use show::{TextForm, push_field_shown, push_number, push_timestamp, push_written};
 
 #[tactic(auto, using(crate::proofs::Escaping::escaped_decimal))]
 fn push_digits(text: &mut Vec<u8>, number: u64) -> Result<(), NoMemory>
@@ -39,19 +40,18 @@ fn push_header(text: &mut Vec<u8>, packet: &Packet, part: HeaderPart) -> Result<
 /// Adds the last field of this name in a protocol of the tree as it is shown, nothing where there is none.
 fn push_last_field(
     text: &mut Vec<u8>,
-    db: &CheckedDb,
-    labels: &Labels,
+    source: &Source,
     proto: &Proto,
     name: &[u8],
 ) -> Result<(), NoMemory>
-    requires { labels.now ≡ labels_of db.now }
+    requires { IsOwn source.now }
     ensures { OnOk result (text.new.items ≡
-        text.old.items ++ escaped (Psml.last_shown db.now proto.now name.now)) }
+        text.old.items ++ escaped (Psml.last_shown source.now.db.now proto.now name.now)) }
 {
-    match last_field(labels, proto.number, name, proto.nodes.as_slice()) {
+    match last_field(source.labels, proto.number, name, proto.nodes.as_slice()) {
         Some(found) => {
-            let label = labels.field(proto.number, found.field);
-            push_field_shown(text, TextForm::Markup, db, label, found.value)
+            let label = source.labels.field(proto.number, found.field);
+            push_field_shown(text, TextForm::Markup, source.db, label, found.value)
         }
         None => Ok(()),
     }
@@ -59,81 +59,49 @@ fn push_last_field(
 
 fn push_content(
     text: &mut Vec<u8>,
-    db: &CheckedDb,
-    labels: &Labels,
-    packet: &Packet,
+    source: &Source,
     proto: &Proto,
     content: &Content,
 ) -> Result<(), NoMemory>
-    requires { labels.now ≡ labels_of db.now }
+    requires { IsOwn source.now }
     ensures { OnOk result (text.new.items ≡
-        text.old.items ++ escaped (Psml.content_text db.now packet.now proto.now content.now)) }
+        text.old.items ++ escaped (Psml.content_text source.now.db.now source.now.packet.now proto.now content.now)) }
 {
     match content {
         Content::Text(value) => push_written(text, TextForm::Markup, value.as_slice()),
-        Content::Field(name) => push_last_field(text, db, labels, proto, name.as_slice()),
-        Content::Header(part) => push_header(text, packet, *part),
+        Content::Field(name) => push_last_field(text, source, proto, name.as_slice()),
+        Content::Header(part) => push_header(text, source.packet, *part),
     }
 }
 
-/// Adds a piece, where it is for the section of this number.
-#[tactic(auto, unfolding(crate::specs::Psml::piece_text))]
-fn push_piece(
+fn push_contents(
     text: &mut Vec<u8>,
-    db: &CheckedDb,
-    labels: &Labels,
-    packet: &Packet,
-    section: usize,
+    source: &Source,
     proto: &Proto,
-    piece: &Piece,
+    contents: &[Content],
 ) -> Result<(), NoMemory>
-    requires { labels.now ≡ labels_of db.now }
-    ensures { OnOk result (text.new.items ≡
-        text.old.items ++ escaped (Psml.piece_text db.now packet.now section proto.now piece.now)) }
+    requires { IsOwn source.now }
+    ensures { OnOk result (text.new.items ≡ text.old.items
+        ++ escaped (flat_map (Psml.content_text source.now.db.now source.now.packet.now proto.now) contents.now)) }
 {
-    if piece.section == section {
-        push_content(text, db, labels, packet, proto, &piece.content)
-    } else {
-        Ok(())
-    }
-}
-
-/// Adds those of the pieces that are for the section of this number.
-fn push_pieces(
-    text: &mut Vec<u8>,
-    db: &CheckedDb,
-    labels: &Labels,
-    packet: &Packet,
-    section: usize,
-    proto: &Proto,
-    pieces: &[Piece],
-) -> Result<(), NoMemory>
-    requires { labels.now ≡ labels_of db.now }
-    ensures { OnOk result (text.new.items ≡
-        text.old.items ++ escaped (flat_map (Psml.piece_text db.now packet.now section proto.now) pieces.now)) }
-{
-    for piece in pieces {
-        push_piece(text, db, labels, packet, section, proto, piece)?;
+    for content in contents {
+        push_content(text, source, proto, content)?;
     }
     Ok(())
 }
 
 /// Adds what the summary of a protocol of the tree adds to the section of this number.
-#[tactic(auto, unfolding(crate::specs::Psml::proto_text))]
 pub fn push_proto(
     text: &mut Vec<u8>,
-    db: &CheckedDb,
-    labels: &Labels,
-    summaries: &Summaries,
-    packet: &Packet,
+    source: &Source,
     section: usize,
     proto: &Proto,
 ) -> Result<(), NoMemory>
-    requires labels { labels.now ≡ labels_of db.now }
-    requires summaries { summaries.now ≡ summaries_of db.now }
-    ensures { OnOk result (text.new.items ≡
-        text.old.items ++ escaped (Psml.proto_text db.now packet.now section proto.now)) }
+    requires own { IsOwn source.now }
+    requires section { section < length (sections source.now.db.now) }
+    ensures { OnOk result (text.new.items ≡ text.old.items
+        ++ escaped (Psml.proto_text source.now.db.now source.now.packet.now section proto.now)) }
 {
-    let pieces = summaries.pieces_of(proto.number);
-    push_pieces(text, db, labels, packet, section, proto, pieces)
+    let contents = source.summaries.contents_of(proto.number, section);
+    push_contents(text, source, proto, contents)
 }

@@ -1,7 +1,7 @@
 ghost use Rattle.std.specs.Prelude.{◌≡◌, ◌++◌, ◌∷◌, [], slice_get, map, IfOk, OnOk};
 ghost use Rattle.std.specs.Option.{option_flatten, option_map};
 ghost use Rattle.psml_out.specs.Summaries as naming;
-ghost use Rattle.psml_out.specs.Summaries.{item_pieces, piece, pieces, sections, summaries_of, template_pieces, template_place};
+ghost use Rattle.psml_out.specs.Summaries.{item_pieces, piece, pieces, sections, summaries_of, template_place, template_sections};
 
 use db_model::{
     Bytes, CheckedDb, Database, HeaderPart, Name, NoMemory, SectionDecl, Sequence, SumItem,
@@ -28,13 +28,16 @@ pub struct Piece {
 }
 
 /// The pieces of a sum template, in order.
-pub type Pieces = Sequence<Piece>;
+type Pieces = Sequence<Piece>;
+
+/// What is added to the text of one section, in order.
+pub type Contents = Sequence<Content>;
 
 /// What a database says of its summaries, its names resolved, so that no output looks for a section or a template.
 #[derive(Drop)]
 pub struct Summaries {
-    /// The pieces of each sum template.
-    templates: Sequence<Pieces>,
+    /// What each sum template adds to each section.
+    templates: Sequence<Sequence<Contents>>,
     /// The place of the sum template of each protocol, where it has one.
     protocols: Sequence<Option<usize>>,
 }
@@ -47,7 +50,7 @@ impl Summaries {
     {
         let database = db.database();
         Ok(Summaries {
-            templates: all_pieces(
+            templates: all_sections(
                 alloc,
                 sections_of(database),
                 database.sum_templates.as_slice(),
@@ -66,19 +69,34 @@ impl Summaries {
         }
     }
 
-    /// The pieces of the summary of the protocol of this number, none where it has no sum template.
-    pub fn pieces_of(&self, protocol: u16) -> &[Piece]
-        ensures { result.now ≡ naming.pieces_of self.now protocol }
+    /// What the protocol of this number adds to each section, nothing where it has no sum template.
+    fn sections_of(&self, protocol: u16) -> &[Contents]
+        ensures { result.now ≡ naming.sections_at self.now.templates (option_flatten (slice_get self.now.protocols protocol)) }
     {
         match self.template_of(protocol) {
             Some(place) => match self.templates.get(place) {
-                Some(pieces) => pieces.as_slice(),
+                Some(sections) => sections.as_slice(),
                 None => &[],
             },
             None => &[],
         }
     }
+
+    /// What the protocol of this number adds to the section of this number.
+    pub fn contents_of(&self, protocol: u16, section: usize) -> &[Content]
+        ensures { result.now ≡ naming.contents_of self.now protocol section }
+    {
+        match self.sections_of(protocol).get(section) {
+            Some(contents) => contents.as_slice(),
+            None => &[],
+        }
+    }
 }
+
+/// What threads may share.
+trait Shared: Send + Sync {}
+
+impl Shared for Summaries {}
 
 /// The sections of a database, in order.
 pub fn sections_of(database: &Database) -> &[SectionDecl]
@@ -90,18 +108,88 @@ pub fn sections_of(database: &Database) -> &[SectionDecl]
     }
 }
 
-fn all_pieces(
+fn all_sections(
     alloc: Global,
     declared: &[SectionDecl],
     templates: &[SumTemplate],
-) -> Result<Sequence<Pieces>, NoMemory>
-    ensures { IfOk result (λ all. all ≡ map (template_pieces declared.now) templates.now) }
+) -> Result<Sequence<Sequence<Contents>>, NoMemory>
+    ensures { IfOk result (λ all. all ≡ map (template_sections declared.now) templates.now) }
 {
     let mut all = Sequence::new(alloc);
     for template in templates {
-        all.push(pieces_of_items(alloc, declared, template.items.as_slice())?)?;
+        all.push(sections_of_template(alloc, declared, template)?)?;
     }
     Ok(all)
+}
+
+fn sections_of_template(
+    alloc: Global,
+    declared: &[SectionDecl],
+    template: &SumTemplate,
+) -> Result<Sequence<Contents>, NoMemory>
+    ensures { IfOk result (λ all. all ≡ template_sections declared.now template.now) }
+{
+    let pieces = pieces_of_items(alloc, declared, template.items.as_slice())?;
+    by_section(alloc, declared.len(), pieces.as_slice())
+}
+
+/// What pieces add to each of so many sections.
+#[tactic(auto, using(crate::proofs::BySection::one_more_section))]
+fn by_section(
+    alloc: Global,
+    count: usize,
+    pieces: &[Piece],
+) -> Result<Sequence<Contents>, NoMemory>
+    ensures { IfOk result (λ all. all ≡ naming.by_section count pieces.now) }
+{
+    let mut all = Sequence::new(alloc);
+    for section in 0..count {
+        all.push(contents_for(alloc, section, pieces)?)?;
+    }
+    Ok(all)
+}
+
+/// What pieces add to the section of this number.
+#[tactic(auto, using(crate::proofs::BySection::one_more_piece))]
+fn contents_for(
+    alloc: Global,
+    section: usize,
+    pieces: &[Piece],
+) -> Result<Contents, NoMemory>
+    ensures { IfOk result (λ all. all ≡ naming.contents_for section pieces.now) }
+{
+    let mut all = Contents::new(alloc);
+    for piece in pieces {
+        add_content(alloc, section, piece, &mut all)?;
+    }
+    Ok(all)
+}
+
+/// Adds what a piece adds to the section of this number.
+fn add_content(
+    alloc: Global,
+    section: usize,
+    piece: &Piece,
+    all: &mut Contents,
+) -> Result<(), NoMemory>
+    ensures { OnOk result (all.new ≡ all.old ++ naming.contents_for section (piece.now ∷ [])) }
+{
+    if piece.section == section {
+        all.push(copied(alloc, &piece.content)?)
+    } else {
+        Ok(())
+    }
+}
+
+/// The same content once more.
+fn copied(alloc: Global, content: &Content) -> Result<Content, NoMemory>
+    ensures { IfOk result (λ copy. copy ≡ content.now) }
+{
+    match content {
+        Content::Text(value) => Ok(Content::Text(value.clone()?)),
+        Content::Field(name) => Ok(Content::Field(Name::copy_of(alloc, name.as_slice())?)),
+        Content::Header(part) => Ok(Content::Header(*part)),
+    }
 }
 
 /// The pieces of the items of a template. At its start the first section is the current one.

@@ -1,6 +1,0 @@
-use Rattle.std.proofs.Common.{◌≡◌, map, take}
-use Rattle.psml_out.specs.Summaries.{template_pieces}
-use Rattle.psml_out.proofs.summaries.all_pieces.Given as goal
-
-abbrev pub invariant-loop-template : goal.invariant-loop-template
-invariant-loop-template l = l.all ≡ map (template_pieces l.declared) (take l.template-index l.templates)
