@@ -5,6 +5,7 @@ use Rattle.std.specs.Cmp.Lexicographic.{bytes_decides}
 use Rattle.std.proofs.Common.{refl, ap, sym, subst, ◌∙◌, arith, inl, inr}
 use Rattle.std.proofs.lemmas.Bool.Decides.{nat_tests}
 use Rattle.std.proofs.lemmas.List.Folds.{list_any-append}
+use Rattle.db_cause.specs.declared.cause.Cause.TheVariants as cause
 use Rattle.db_model.specs.declared.database.NamedBlock.{NamedBlock}
 use Rattle.db_model.specs.declared.database.Protocol.{Protocol}
 use Rattle.db_model.specs.declared.element.Element as element
@@ -178,8 +179,8 @@ and_false false = refl
 pub not_deep : (p : Protocol) → protocol_within p ≡ true → protocol_46 p ≡ []
 not_deep p w = ap (at_line p.line) (ap (λ b. is_nothing (protocol_45 p) && not b) w ∙ and_false (is_nothing (protocol_45 p)))
 
-pub deep_here : (p : Protocol) → protocol_within p ≡ false → protocol_46 p ≡ at_line p.line (not (is_some (first 45 (protocol_45 p))))
-deep_here p w = deep_is p ∙ ap (at_line p.line) (ap (λ b. not (is_some (first 45 (protocol_45 p))) && not b) w ∙ and_true (not (is_some (first 45 (protocol_45 p)))))
+pub deep_here : (p : Protocol) → protocol_within p ≡ false → protocol_46 p ≡ at_line p.line (not (is_some (first cause.IncludesItself (protocol_45 p))))
+deep_here p w = deep_is p ∙ ap (at_line p.line) (ap (λ b. not (is_some (first cause.IncludesItself (protocol_45 p))) && not b) w ∙ and_true (not (is_some (first cause.IncludesItself (protocol_45 p)))))
   where
     and_true : (a : Bool) → (a && true) ≡ a
     and_true true = refl

@@ -3,6 +3,7 @@ use Rattle.std.specs.Prelude.{◌≡◌, ℕ, zero, suc, ◌+◌, ◌<◌, nat_l
 use Rattle.std.specs.Map.{lookup}
 use Rattle.std.proofs.Common.{refl, ap, sym, ◌∙◌, append_assoc, arith}
 use Rattle.std.proofs.lemmas.List.{at_drop_more}
+use Rattle.db_cause.specs.declared.cause.Cause.TheVariants as cause
 use Rattle.db_model.specs.declared.database.ColumnDecl.{ColumnDecl}
 use Rattle.db_model.specs.declared.database.KeyDecl.{KeyDecl}
 use Rattle.db_model.specs.declared.database.TableDecl.{TableDecl}
@@ -95,8 +96,8 @@ module _ {X : Type 0} (name : X → Text) (line : X → ℕ) where
   pub again_is : (xs : List X) (ns : Numbers) (taken : List Text) (i : ℕ) (x : X) (known : Text) (n : ℕ) (b : Bool) → IsPlaces (map name xs) ns → known ≡ name x → n ≡ unwrap_or (lookup (bytes_eq known) ns) (length xs) → b ≡ (nat_lt n i || is_among known taken) → b ≡ (nat_lt (place (name x) (map name xs)) i || is_among (name x) taken)
   again_is xs ns taken i x known n b h e u w = w ∙ (ap (λ (k : ℕ). nat_lt k i || is_among known taken) (place_known name xs xs ns known n h refl u) ∙ ap (λ (t : Text). nat_lt (place t (map name xs)) i || is_among t taken) e)
 
-  pub repeat_next : (taken : List Text) (xs : List X) (i : ℕ) (x : X) (again : Bool) (found one next whole : Option Fault) → i < length xs → x ≡ get_or xs i x → again ≡ (nat_lt (place (name x) (map name xs)) i || is_among (name x) taken) → one ≡ first 40 (at_line (line x) again) → next ≡ earlier found one
-      → earlier found (first 40 (repeated_from taken (map name xs) i (map declared_as (drop i xs)))) ≡ whole → earlier next (first 40 (repeated_from taken (map name xs) (i + 1) (map declared_as (drop (i + 1) xs)))) ≡ whole
+  pub repeat_next : (taken : List Text) (xs : List X) (i : ℕ) (x : X) (again : Bool) (found one next whole : Option Fault) → i < length xs → x ≡ get_or xs i x → again ≡ (nat_lt (place (name x) (map name xs)) i || is_among (name x) taken) → one ≡ first cause.DeclaredAgain (at_line (line x) again) → next ≡ earlier found one
+      → earlier found (first cause.DeclaredAgain (repeated_from taken (map name xs) i (map declared_as (drop i xs)))) ≡ whole → earlier next (first cause.DeclaredAgain (repeated_from taken (map name xs) (i + 1) (map declared_as (drop (i + 1) xs)))) ≡ whole
   repeat_next taken xs i x again found one next whole h e a o n k =
       let more : suc i ≡ i + 1 = omega arith in
       let rest : Lines = repeated_from taken (map name xs) (i + 1) (map declared_as (drop (i + 1) xs)) in
@@ -104,9 +105,9 @@ module _ {X : Type 0} (name : X → Text) (line : X → ℕ) where
       at_drop_more (λ (l : List X). repeated_from taken (map name xs) i (map declared_as l)) xs i x h
       ∙ (ap (λ y. repeated_from taken (map name xs) i (map declared_as (y ∷ drop (i + 1) xs))) (sym e)
       ∙ (λ j. at_line (line x) (sym a j) ++ repeated_from taken (map name xs) (more j) (map declared_as (drop (i + 1) xs)))) in
-      ap (λ b. earlier b (first 40 rest)) (n ∙ ap (earlier found) o)
-      ∙ (earlier_assoc found (first 40 (at_line (line x) again)) (first 40 rest)
-      ∙ (ap (earlier found) (sym (ap (first 40) here ∙ first_append 40 (at_line (line x) again) rest)) ∙ k))
+      ap (λ b. earlier b (first cause.DeclaredAgain rest)) (n ∙ ap (earlier found) o)
+      ∙ (earlier_assoc found (first cause.DeclaredAgain (at_line (line x) again)) (first cause.DeclaredAgain rest)
+      ∙ (ap (earlier found) (sym (ap (first cause.DeclaredAgain) here ∙ first_append cause.DeclaredAgain (at_line (line x) again) rest)) ∙ k))
 
 -- ---- one space in two lists
 
@@ -137,8 +138,8 @@ repeated_same a b h (d ∷ ds) = λ i. at_line d.1 (h d.0 i) ++ repeated_same (d
 pub two_lists : (ks cs : List Declared) → repeated [] (ks ++ cs) ≡ repeated [] ks ++ repeated (map (λ (d : Declared). d.0) ks) cs
 two_lists ks cs = repeated_append [] ks cs ∙ ap (λ l. repeated [] ks ++ l) (repeated_same (names_onto ks []) (map (λ (d : Declared). d.0) ks) (λ n. onto_among n ks [] ∙ or_false (is_among n (map (λ (d : Declared). d.0) ks))) cs)
 
-pub table_again : (t : TableDecl) → first 40 (repeated_in_table t) ≡ earlier (first 40 (repeated [] (map (λ k. (k.name, k.line)) t.keys))) (first 40 (repeated (map (λ k. k.name) t.keys) (map (λ c. (c.name, c.line)) t.columns)))
+pub table_again : (t : TableDecl) → first cause.DeclaredAgain (repeated_in_table t) ≡ earlier (first cause.DeclaredAgain (repeated [] (map (λ k. (k.name, k.line)) t.keys))) (first cause.DeclaredAgain (repeated (map (λ k. k.name) t.keys) (map (λ c. (c.name, c.line)) t.columns)))
 table_again t =
-    ap (first 40) (two_lists (map (λ (k : KeyDecl). (k.name, k.line)) t.keys) (map (λ (c : ColumnDecl). (c.name, c.line)) t.columns))
-    ∙ (ap (λ (l : List Text). first 40 (repeated [] (map (λ (k : KeyDecl). (k.name, k.line)) t.keys) ++ repeated l (map (λ (c : ColumnDecl). (c.name, c.line)) t.columns))) (names_are (λ (k : KeyDecl). k.name) (λ (k : KeyDecl). k.line) t.keys)
-    ∙ first_append 40 (repeated [] (map (λ (k : KeyDecl). (k.name, k.line)) t.keys)) (repeated (map (λ (k : KeyDecl). k.name) t.keys) (map (λ (c : ColumnDecl). (c.name, c.line)) t.columns)))
+    ap (first cause.DeclaredAgain) (two_lists (map (λ (k : KeyDecl). (k.name, k.line)) t.keys) (map (λ (c : ColumnDecl). (c.name, c.line)) t.columns))
+    ∙ (ap (λ (l : List Text). first cause.DeclaredAgain (repeated [] (map (λ (k : KeyDecl). (k.name, k.line)) t.keys) ++ repeated l (map (λ (c : ColumnDecl). (c.name, c.line)) t.columns))) (names_are (λ (k : KeyDecl). k.name) (λ (k : KeyDecl). k.line) t.keys)
+    ∙ first_append cause.DeclaredAgain (repeated [] (map (λ (k : KeyDecl). (k.name, k.line)) t.keys)) (repeated (map (λ (k : KeyDecl). k.name) t.keys) (map (λ (c : ColumnDecl). (c.name, c.line)) t.columns)))

@@ -3,6 +3,7 @@ use Rattle.std.specs.Prelude.{◌≡◌, ◌⊎◌, ℕ, zero, suc, ◌+◌, ◌
 use Rattle.std.proofs.Common.{refl, ap, sym, ◌∙◌, append_assoc, arith, inl, inr, ltb, ltb-true}
 use Rattle.std.proofs.lemmas.Bool.Decides.{nat_tests}
 use Rattle.std.proofs.lemmas.List.{at_drop_more}
+use Rattle.db_cause.specs.declared.cause.Cause.TheVariants as cause
 use Rattle.db_model.specs.declared.database.TableDecl.{TableDecl}
 use Rattle.db_model.specs.declared.fault.Fault.{Fault}
 use Rattle.db_model.specs.declared.limits.TheConstants.{MOST_EXACT, MOST_EXACT_OVER_ALL, MOST_MASKED}
@@ -60,14 +61,18 @@ by_cap : (n m : ℕ) (b : Bool) → nat_le n m ≡ b → MOST_EXACT_OVER_ALL < m
 by_cap n m true e h = let le : n ≤ m = grind (arith, nat_tests) in inl (omega (arith, le))
 by_cap n m false e h = let gt : m < n = grind (arith, nat_tests) in inr (omega (arith, h, gt), omega (arith, h, gt))
 
-pub tables_next : (ts : List TableDecl) (i : ℕ) (t : TableDecl) (before after : ℕ) (found one next whole : Option Fault) → i < length ts → t ≡ get_or ts i t → one ≡ first 43 (table_lines before t) → next ≡ earlier found one → after ≡ min (before + t.exact_entries) (2 ^ 64 - 1)
-    → earlier found (first 43 (tables_43 before (drop i ts))) ≡ whole → earlier next (first 43 (tables_43 after (drop (i + 1) ts))) ≡ whole
+-- the first fault of some numbers and then of others
+pub limits_append : (xs ys : Lines) → first cause.OutOfLimits (xs ++ ys) ≡ earlier (first cause.OutOfLimits xs) (first cause.OutOfLimits ys)
+limits_append xs ys = first_append cause.OutOfLimits xs ys
+
+pub tables_next : (ts : List TableDecl) (i : ℕ) (t : TableDecl) (before after : ℕ) (found one next whole : Option Fault) → i < length ts → t ≡ get_or ts i t → one ≡ first cause.OutOfLimits (table_lines before t) → next ≡ earlier found one → after ≡ min (before + t.exact_entries) (2 ^ 64 - 1)
+    → earlier found (first cause.OutOfLimits (tables_43 before (drop i ts))) ≡ whole → earlier next (first cause.OutOfLimits (tables_43 after (drop (i + 1) ts))) ≡ whole
 tables_next ts i t before after found one next whole h e o n s k =
     let rest : List TableDecl = drop (i + 1) ts in
     let sum : ℕ = before + t.exact_entries in
     let same : tables_43 sum rest ≡ tables_43 after rest = alike_tables sum (min sum (2 ^ 64 - 1)) rest (by_cap sum (2 ^ 64 - 1) (nat_le sum (2 ^ 64 - 1)) refl (omega arith)) ∙ ap (λ m. tables_43 m rest) (sym s) in
     let here : tables_43 before (drop i ts) ≡ table_lines before t ++ tables_43 after rest =
     at_drop_more (tables_43 before) ts i t h ∙ (ap (λ (y : TableDecl). tables_43 before (y ∷ rest)) (sym e) ∙ (first_table before t rest ∙ ap (λ l. table_lines before t ++ l) same)) in
-    ap (λ a. earlier a (first 43 (tables_43 after rest))) (n ∙ ap (earlier found) o)
-    ∙ (earlier_assoc found (first 43 (table_lines before t)) (first 43 (tables_43 after rest))
-    ∙ (ap (earlier found) (sym (ap (first 43) here ∙ first_append 43 (table_lines before t) (tables_43 after rest))) ∙ k))
+    ap (λ a. earlier a (first cause.OutOfLimits (tables_43 after rest))) (n ∙ ap (earlier found) o)
+    ∙ (earlier_assoc found (first cause.OutOfLimits (table_lines before t)) (first cause.OutOfLimits (tables_43 after rest))
+    ∙ (ap (earlier found) (sym (ap (first cause.OutOfLimits) here ∙ first_append cause.OutOfLimits (table_lines before t) (tables_43 after rest))) ∙ k))

@@ -3,6 +3,7 @@ use Rattle.std.specs.Prelude.{◌≡◌, ℕ, zero, suc, Bool, false, ◌||◌, 
 use Rattle.std.specs.Option.{option_map}
 use Rattle.std.proofs.Common.{refl, ap, sym, ◌∙◌, append-nil, arith}
 use Rattle.std.proofs.lemmas.List.{at_drop_more, at_drop_all}
+use Rattle.db_cause.specs.declared.cause.Cause.{Cause}
 use Rattle.db_model.specs.declared.database.ColumnDecl.{ColumnDecl}
 use Rattle.db_model.specs.declared.database.Database.{Database}
 use Rattle.db_model.specs.declared.element.Element.TheOpen as layer
@@ -142,22 +143,22 @@ wants_at [] (suc i) v vs = refl
 wants_at (c ∷ cs) zero v vs = refl
 wants_at (c ∷ cs) (suc i) v vs = wants_at cs i v vs
 
-pub wants_next : (f : Option Ty × UpdateValue → Lines) (code : ℕ) (cs : List ColumnDecl) (vs : List UpdateValue) (i : ℕ) (v : UpdateValue) (wanted : Option Ty) (found one next whole : Option Fault) → i < length vs → v ≡ get_or vs i v → wanted ≡ option_map (λ (c : ColumnDecl). c.ty) (slice_get cs i) → one ≡ first code (f (wanted, v)) → next ≡ earlier found one
-    → earlier found (first code (over f (column_wants (drop i cs) (drop i vs)))) ≡ whole → earlier next (first code (over f (column_wants (drop (i + 1) cs) (drop (i + 1) vs)))) ≡ whole
-wants_next f code cs vs i v wanted found one next whole h e w o n k =
+pub wants_next : (f : Option Ty × UpdateValue → Lines) (why : Cause) (cs : List ColumnDecl) (vs : List UpdateValue) (i : ℕ) (v : UpdateValue) (wanted : Option Ty) (found one next whole : Option Fault) → i < length vs → v ≡ get_or vs i v → wanted ≡ option_map (λ (c : ColumnDecl). c.ty) (slice_get cs i) → one ≡ first why (f (wanted, v)) → next ≡ earlier found one
+    → earlier found (first why (over f (column_wants (drop i cs) (drop i vs)))) ≡ whole → earlier next (first why (over f (column_wants (drop (i + 1) cs) (drop (i + 1) vs)))) ≡ whole
+wants_next f why cs vs i v wanted found one next whole h e w o n k =
     let rest : Lines = over f (column_wants (drop (i + 1) cs) (drop (i + 1) vs)) in
     let more : suc i ≡ i + 1 = omega arith in
     let here : over f (column_wants (drop i cs) (drop i vs)) ≡ f (wanted, v) ++ rest =
     ap (λ l. over f (column_wants (drop i cs) l)) (at_drop_more (λ (l : List UpdateValue). l) vs i v h ∙ ap (λ y. y ∷ drop (i + 1) vs) (sym e))
     ∙ (ap (over f) (wants_at cs i v (drop (i + 1) vs))
     ∙ (λ j. f (sym w j, v) ++ over f (column_wants (drop (more j) cs) (drop (i + 1) vs)))) in
-    ap (λ a. earlier a (first code rest)) (n ∙ ap (earlier found) o)
-    ∙ (earlier_assoc found (first code (f (wanted, v))) (first code rest)
-    ∙ (ap (earlier found) (sym (ap (first code) here ∙ first_append code (f (wanted, v)) rest)) ∙ k))
+    ap (λ a. earlier a (first why rest)) (n ∙ ap (earlier found) o)
+    ∙ (earlier_assoc found (first why (f (wanted, v))) (first why rest)
+    ∙ (ap (earlier found) (sym (ap (first why) here ∙ first_append why (f (wanted, v)) rest)) ∙ k))
 
-pub wants_end : (f : Option Ty × UpdateValue → Lines) (code : ℕ) (cs : List ColumnDecl) (vs : List UpdateValue) (i : ℕ) (found whole : Option Fault) → length vs ≤ i → earlier found (first code (over f (column_wants (drop i cs) (drop i vs)))) ≡ whole → found ≡ whole
-wants_end f code cs vs i found whole h w =
-    sym (earlier_none found) ∙ (ap (earlier found) (sym (ap (first code) (at_drop_all (λ (l : List UpdateValue). over f (column_wants (drop i cs) l)) vs i h ∙ ap (over f) (wants_none (drop i cs))))) ∙ w)
+pub wants_end : (f : Option Ty × UpdateValue → Lines) (why : Cause) (cs : List ColumnDecl) (vs : List UpdateValue) (i : ℕ) (found whole : Option Fault) → length vs ≤ i → earlier found (first why (over f (column_wants (drop i cs) (drop i vs)))) ≡ whole → found ≡ whole
+wants_end f why cs vs i found whole h w =
+    sym (earlier_none found) ∙ (ap (earlier found) (sym (ap (first why) (at_drop_all (λ (l : List UpdateValue). over f (column_wants (drop i cs) l)) vs i h ∙ ap (over f) (wants_none (drop i cs))))) ∙ w)
   where
     wants_none : (cs : List ColumnDecl) → column_wants cs [] ≡ []
     wants_none [] = refl

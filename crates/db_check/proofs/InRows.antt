@@ -3,6 +3,7 @@ use Rattle.std.specs.Prelude.{◌≡◌, ℕ, ◌+◌, ◌-◌, ◌<◌, length,
 use Rattle.std.specs.Option.{option_map}
 use Rattle.std.proofs.Common.{refl, ap, sym, ◌∙◌, arith, length-drop}
 use Rattle.std.proofs.lemmas.List.{at_drop_more, take_all}
+use Rattle.db_cause.specs.declared.cause.Cause.TheVariants as cause
 use Rattle.db_model.specs.declared.element.Branch.{Branch}
 use Rattle.db_model.specs.declared.element.Case.{Case}
 use Rattle.db_model.specs.declared.element.Element as element
@@ -41,23 +42,27 @@ within_switch line e cs other = (λ i. over (λ (c : CaseOf InRow). row_44 c.bod
 pub within_if : (line : ℕ) (e : Expr) (true_line : ℕ) (so : List Element) (other : Option Branch) → (in_row_of (element.If line e true_line so other)).within ≡ list_44 so ++ rows_of_other other
 within_if line e true_line so other = (λ i. row_44 (fold_list InRow in_row so i) ++ over_option (λ (b : BranchOf InRow). row_44 b.body) (fold_other InRow in_row other i)) ∙ ap (λ l. list_44 so ++ l) (other_is other)
 
+-- the first fault of one row and then of others
+pub rows_append : (xs ys : Lines) → first cause.UnfollowedBits (xs ++ ys) ≡ earlier (first cause.UnfollowedBits xs) (first cause.UnfollowedBits ys)
+rows_append xs ys = first_append cause.UnfollowedBits xs ys
+
 -- the element at a place of a row, in front of those behind it
 pub row_next : (xs : List Element) (i : ℕ) (x : Element) (behind : List Element) (found own inner one next whole : Option Fault) → i < length xs → x ≡ get_or xs i x → behind ≡ drop (i + 1) xs
-    → own ≡ first 44 (at_line (in_row_of x).line (is_unfollowed (in_row_of x).bit (map in_row_of behind))) → inner ≡ first 44 (in_row_of x).within → one ≡ earlier own inner → next ≡ earlier found one
-    → earlier found (first 44 (list_44 (drop i xs))) ≡ whole → earlier next (first 44 (list_44 (drop (i + 1) xs))) ≡ whole
+    → own ≡ first cause.UnfollowedBits (at_line (in_row_of x).line (is_unfollowed (in_row_of x).bit (map in_row_of behind))) → inner ≡ first cause.UnfollowedBits (in_row_of x).within → one ≡ earlier own inner → next ≡ earlier found one
+    → earlier found (first cause.UnfollowedBits (list_44 (drop i xs))) ≡ whole → earlier next (first cause.UnfollowedBits (list_44 (drop (i + 1) xs))) ≡ whole
 row_next xs i x behind found own inner one next whole l g b o w e n h =
     let rest : List Element = drop (i + 1) xs in
     let here : Lines = at_line (in_row_of x).line (is_unfollowed (in_row_of x).bit (map in_row_of rest)) in
-    let own_is : own ≡ first 44 here = o ∙ ap (λ (l : List Element). first 44 (at_line (in_row_of x).line (is_unfollowed (in_row_of x).bit (map in_row_of l)))) b in
+    let own_is : own ≡ first cause.UnfollowedBits here = o ∙ ap (λ (l : List Element). first cause.UnfollowedBits (at_line (in_row_of x).line (is_unfollowed (in_row_of x).bit (map in_row_of l)))) b in
     let left : list_44 (drop i xs) ≡ here ++ ((in_row_of x).within ++ list_44 rest) = at_drop_more list_44 xs i x l ∙ ap (λ (y : Element). list_44 (y ∷ rest)) (sym g) in
-    let both : first 44 (list_44 (drop i xs)) ≡ earlier one (first 44 (list_44 rest)) =
-    ap (first 44) left
-    ∙ (first_append 44 here ((in_row_of x).within ++ list_44 rest)
-    ∙ (ap (earlier (first 44 here)) (first_append 44 (in_row_of x).within (list_44 rest))
-    ∙ (sym (earlier_assoc (first 44 here) (first 44 (in_row_of x).within) (first 44 (list_44 rest)))
-    ∙ ap (λ a. earlier a (first 44 (list_44 rest))) ((λ j. earlier (sym own_is j) (sym w j)) ∙ sym e)))) in
-    ap (λ a. earlier a (first 44 (list_44 rest))) n
-    ∙ (earlier_assoc found one (first 44 (list_44 rest))
+    let both : first cause.UnfollowedBits (list_44 (drop i xs)) ≡ earlier one (first cause.UnfollowedBits (list_44 rest)) =
+    ap (first cause.UnfollowedBits) left
+    ∙ (first_append cause.UnfollowedBits here ((in_row_of x).within ++ list_44 rest)
+    ∙ (ap (earlier (first cause.UnfollowedBits here)) (first_append cause.UnfollowedBits (in_row_of x).within (list_44 rest))
+    ∙ (sym (earlier_assoc (first cause.UnfollowedBits here) (first cause.UnfollowedBits (in_row_of x).within) (first cause.UnfollowedBits (list_44 rest)))
+    ∙ ap (λ a. earlier a (first cause.UnfollowedBits (list_44 rest))) ((λ j. earlier (sym own_is j) (sym w j)) ∙ sym e)))) in
+    ap (λ a. earlier a (first cause.UnfollowedBits (list_44 rest))) n
+    ∙ (earlier_assoc found one (first cause.UnfollowedBits (list_44 rest))
     ∙ (ap (earlier found) (sym both) ∙ h))
 
 -- what is behind a place

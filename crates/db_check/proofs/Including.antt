@@ -4,6 +4,8 @@ use Rattle.std.specs.List.{list_any}
 use Rattle.std.specs.Cmp.Lexicographic.{bytes_decides}
 use Rattle.std.proofs.Common.{refl, sym, ap, subst, ◌∙◌, arith, inl, inr}
 use Rattle.std.proofs.lemmas.List.{length-map, at_drop_more}
+use Rattle.db_cause.specs.declared.cause.Cause.TheVariants as cause
+use Rattle.db_cause.specs.Codes.{code}
 use Rattle.db_model.specs.declared.database.NamedBlock.{NamedBlock}
 use Rattle.db_model.specs.declared.database.Protocol.{Protocol}
 use Rattle.db_model.specs.declared.fault.Fault.{Fault}
@@ -187,13 +189,13 @@ module _ (law : CyclesFound) (p : Protocol) where
 
 -- ---- the walk
 
-pub found_stays : (found : Option Fault) (line : ℕ) (wrong : Bool) → comes_before found line ≡ true → found ≡ earlier found (first 45 (at_line line wrong))
+pub found_stays : (found : Option Fault) (line : ℕ) (wrong : Bool) → comes_before found line ≡ true → found ≡ earlier found (first cause.IncludesItself (at_line line wrong))
 found_stays None line wrong h = (cc)
 found_stays (Some f) line false h = refl
-found_stays (Some f) line true h = ap (λ b. if b then Some f else Some (record { line = line; code = 45 })) (sym h)
+found_stays (Some f) line true h = ap (λ b. if b then Some f else Some (record { line = line; code = code cause.IncludesItself })) (sym h)
 
-pub cycle_next : (g : Graph) (names : List Text) (bs : List NamedBlock) (i : ℕ) (b : NamedBlock) (found next whole : Option Fault) → i < length bs → b ≡ get_or bs i b → next ≡ earlier found (first 45 (at_line b.line (leads_here g names i b.name)))
-    → earlier found (first 45 (cycles_from g names i (drop i bs))) ≡ whole → earlier next (first 45 (cycles_from g names (i + 1) (drop (i + 1) bs))) ≡ whole
+pub cycle_next : (g : Graph) (names : List Text) (bs : List NamedBlock) (i : ℕ) (b : NamedBlock) (found next whole : Option Fault) → i < length bs → b ≡ get_or bs i b → next ≡ earlier found (first cause.IncludesItself (at_line b.line (leads_here g names i b.name)))
+    → earlier found (first cause.IncludesItself (cycles_from g names i (drop i bs))) ≡ whole → earlier next (first cause.IncludesItself (cycles_from g names (i + 1) (drop (i + 1) bs))) ≡ whole
 cycle_next g names bs i b found next whole h e n k =
     let more : suc i ≡ i + 1 = omega arith in
     let own : Lines = at_line b.line (leads_here g names i b.name) in
@@ -202,6 +204,6 @@ cycle_next g names bs i b found next whole h e n k =
     at_drop_more (cycles_from g names i) bs i b h
     ∙ (ap (λ (y : NamedBlock). cycles_from g names i (y ∷ drop (i + 1) bs)) (sym e)
     ∙ (λ j. own ++ cycles_from g names (more j) (drop (i + 1) bs))) in
-    ap (λ a. earlier a (first 45 rest)) n
-    ∙ (earlier_assoc found (first 45 own) (first 45 rest)
-    ∙ (ap (earlier found) (sym (ap (first 45) here ∙ first_append 45 own rest)) ∙ k))
+    ap (λ a. earlier a (first cause.IncludesItself rest)) n
+    ∙ (earlier_assoc found (first cause.IncludesItself own) (first cause.IncludesItself rest)
+    ∙ (ap (earlier found) (sym (ap (first cause.IncludesItself) here ∙ first_append cause.IncludesItself own rest)) ∙ k))

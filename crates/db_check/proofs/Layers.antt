@@ -2,6 +2,7 @@
 use Rattle.std.specs.Prelude.{◌≡◌, ℕ, List, [], ◌∷◌, ◌++◌, map, Option, Some, None}
 use Rattle.std.specs.Option.{option_map}
 use Rattle.std.proofs.Common.{refl, ap, ◌∙◌}
+use Rattle.db_cause.specs.declared.cause.Cause.{Cause}
 use Rattle.db_model.specs.declared.element.Branch.{Branch}
 use Rattle.db_model.specs.declared.element.Case.{Case}
 use Rattle.db_model.specs.declared.element.Element as element
@@ -63,7 +64,7 @@ module _ (own : ElementOf Lines → Lines) where
       (over_append (lines_of own) (fields_in p.format) (after_in p.execute_code ++ elements_in p.encapsulation)
       ∙ ap (λ l. over (lines_of own) (fields_in p.format) ++ l) (over_append (lines_of own) (after_in p.execute_code) (elements_in p.encapsulation))))
 
-  pub parts_first : (k : ℕ) (p : Protocol) → first k (lines_in own p) ≡ earlier (earlier (first k (over (lines_of own) (before_in p.execute_code))) (earlier (first k (over (lines_of own) (fields_in p.format))) (earlier (first k (over (lines_of own) (after_in p.execute_code))) (first k (over (lines_of own) (elements_in p.encapsulation)))))) (first k (lines_of_blocks own (blocks_in p.format)))
+  pub parts_first : (k : Cause) (p : Protocol) → first k (lines_in own p) ≡ earlier (earlier (first k (over (lines_of own) (before_in p.execute_code))) (earlier (first k (over (lines_of own) (fields_in p.format))) (earlier (first k (over (lines_of own) (after_in p.execute_code))) (first k (over (lines_of own) (elements_in p.encapsulation)))))) (first k (lines_of_blocks own (blocks_in p.format)))
   parts_first k p =
       let b : Lines = over (lines_of own) (before_in p.execute_code) in
       let f : Lines = over (lines_of own) (fields_in p.format) in

@@ -4,6 +4,8 @@ use Rattle.std.specs.List.{list_all}
 use Rattle.std.specs.Option.{option_map}
 use Rattle.std.proofs.Common.{refl, ap, sym, ◌∙◌, arith}
 use Rattle.std.proofs.lemmas.Bool.Decides.{nat_tests}
+use Rattle.db_cause.specs.declared.cause.Cause.TheVariants as cause
+use Rattle.db_cause.specs.Codes.{code}
 use Rattle.db_model.specs.declared.database.NamedBlock.{NamedBlock}
 use Rattle.db_model.specs.declared.database.Protocol.{Protocol}
 use Rattle.db_model.specs.declared.element.Branch.{Branch}
@@ -192,7 +194,7 @@ run_height I p =
     (height_append I (fields_in p.format) (after_in p.execute_code ++ elements_in p.encapsulation)
     ∙ ap (max (height_in I (fields_in p.format))) (height_append I (after_in p.execute_code) (elements_in p.encapsulation)))
 
--- fault 46 stands where fault 45 doesn't
+-- a protocol stands too deep where none of its blocks includes itself
 one_of_two : (b : Bool) (f g : Fault) → is_some (if b then Some f else Some g) ≡ true
 one_of_two true f g = refl
 one_of_two false f g = refl
@@ -201,9 +203,9 @@ found_some : (f : Fault) (o : Option Fault) → is_some (earlier (Some f) o) ≡
 found_some f None = refl
 found_some f (Some g) = one_of_two (comes_first f g) f g
 
-nothing_is : (ls : Lines) → is_nothing ls ≡ not (is_some (first 45 ls))
+nothing_is : (ls : Lines) → is_nothing ls ≡ not (is_some (first cause.IncludesItself ls))
 nothing_is [] = refl
-nothing_is (l ∷ ls) = sym (ap not (found_some (record { line = l; code = 45 }) (first 45 ls)))
+nothing_is (l ∷ ls) = sym (ap not (found_some (record { line = l; code = code cause.IncludesItself }) (first cause.IncludesItself ls)))
 
-pub deep_is : (p : Protocol) → protocol_46 p ≡ at_line p.line (not (is_some (first 45 (protocol_45 p))) && not (protocol_within p))
+pub deep_is : (p : Protocol) → protocol_46 p ≡ at_line p.line (not (is_some (first cause.IncludesItself (protocol_45 p))) && not (protocol_within p))
 deep_is p = ap (λ b. at_line p.line (b && not (protocol_within p))) (nothing_is (protocol_45 p))

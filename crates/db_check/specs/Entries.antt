@@ -13,8 +13,8 @@ abbrev pub table_lines : ℕ → TableDecl → Lines
 table_lines before t = at_line t.line (too_many_entries before t) ++ (over key_43 t.keys ++ over column_43 t.columns)
 
 -- the first declarations too many
-abbrev pub counts_43 : Database → Lines
-counts_43 db =
+abbrev pub excess_lines : Database → Lines
+excess_lines db =
     too_many MOST_PROTOCOLS (map (λ d. d.line) db.protocols)
     ++ (too_many MOST_VARIABLES (map (λ d. d.line) db.variables)
     ++ (too_many MOST_TABLES (map (λ d. d.line) db.tables)

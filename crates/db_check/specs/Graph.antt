@@ -1,5 +1,7 @@
 -- The blocks of a protocol by their numbers, each with those that it includes, and a search from one of them.
 use Rattle.std.specs.Prelude.{◌≡◌, ◌⊎◌, ℕ, zero, suc, Bool, true, false, not, ◌&&◌, nat_lt, length, if◌then◌else◌, List, [], ◌∷◌, ◌++◌, map, slice_get, slice_set, Option, Some, None}
+use Rattle.db_cause.specs.declared.cause.Cause.TheVariants as cause
+use Rattle.db_cause.specs.Codes.{code}
 use Rattle.db_model.specs.declared.database.NamedBlock.{NamedBlock}
 use Rattle.db_model.specs.declared.database.Protocol.{Protocol}
 use Rattle.db_model.specs.declared.element.Branch.{Branch}
@@ -91,4 +93,4 @@ cycles_from g names i (b ∷ bs) = at_line b.line (leads_here g names i b.name) 
 -- what was found comes before a fault at a line
 abbrev pub comes_before : Option Fault → ℕ → Bool
 comes_before None line = false
-comes_before (Some f) line = comes_first f (record { line = line; code = 45 })
+comes_before (Some f) line = comes_first f (record { line = line; code = code cause.IncludesItself })

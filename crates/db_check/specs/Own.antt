@@ -1,5 +1,7 @@
 -- The four kinds of fault of an element itself, in one form: what fails of its expressions, its numbers and its names.
 use Rattle.std.specs.Prelude.{ℕ, Bool, false, not, ◌||◌, nat_lt, List, [], ◌++◌, map, slice_get, Option, Some}
+use Rattle.db_cause.specs.declared.cause.Cause.{Cause}
+use Rattle.db_cause.specs.declared.cause.Cause.TheVariants as cause
 use Rattle.db_model.specs.declared.database.Database.{Database}
 use Rattle.db_model.specs.declared.element.Element.TheOpen as layer
 use Rattle.db_model.specs.declared.element.FieldForm.{FieldForm}
@@ -22,11 +24,12 @@ use Rattle.db_model.specs.Special.{special_names}
 use Rattle.db_model.specs.TypeFaults.{isnt_wanted, column_wants, update_misses}
 use Rattle.db_model.specs.Typing.{is_among, is_table, has_undeclared, has_wrong_arity, type_of, declared_ty, columns_in}
 
-abbrev pub code : Kind → ℕ
-code kind.Names = 41
-code kind.Types = 42
-code kind.Numbers = 43
-code kind.Tables = 47
+-- what a fault of this kind is
+abbrev pub cause_of : Kind → Cause
+cause_of kind.Names = cause.Undeclared
+cause_of kind.Types = cause.WrongType
+cause_of kind.Numbers = cause.OutOfLimits
+cause_of kind.Tables = cause.TableMisfit
 
 -- the numbers of a case
 abbrev pub case_fails : Kind → ℕ → ℕ → Bool

@@ -1,6 +1,7 @@
 //! The named blocks of a protocol by their numbers, and those that include themselves.
 
 ghost use Rattle.std.specs.Prelude.{◌≡◌, ◌++◌, OnOk, IfOk};
+ghost use Rattle.db_cause.specs.declared.cause.Cause.TheVariants as cause;
 ghost use Rattle.db_model.specs.BlockFaults.{includes_of, includes_in, protocol_45};
 ghost use Rattle.db_model.specs.LeastFault.{earlier};
 ghost use Rattle.db_model.specs.Lines.{at_line};
@@ -15,6 +16,7 @@ use crate::home::Home;
 use crate::order::{Ordered, turns};
 use crate::parts;
 use crate::search::Graph;
+use db_cause::Cause;
 use db_laws::cycles_found;
 use db_model::{Branch, Case, Element, Fault, Name, NamedBlock, NoMemory, Sequence};
 use std::alloc::Global;
@@ -136,9 +138,10 @@ fn leads_here(
 fn comes_before(found: Option<Fault>, line: u32) -> bool
     ensures { result ≡ comes_before found line }
 {
+    let code = Cause::IncludesItself.code();
     match found {
         None => false,
-        Some(fault) => fault.line < line || fault.line == line && fault.code <= 45,
+        Some(fault) => fault.line < line || fault.line == line && fault.code <= code,
     }
 }
 
@@ -154,13 +157,14 @@ fn with_block(
 ) -> Result<Option<Fault>, NoMemory>
     requires home { IsHome home.now }
     requires order { IsOrdered ordered.now }
-    ensures { IfOk result (λ f. f ≡ earlier found (first 45 (at_line block.now.line (leads_here ordered.now.graph.now (block_names home.now.protocol.now) number block.now.name)))) }
+    ensures { IfOk result (λ f. f ≡ earlier found (first cause.IncludesItself (at_line block.now.line
+        (leads_here ordered.now.graph.now (block_names home.now.protocol.now) number block.now.name)))) }
 {
     if comes_before(found, block.line) {
         return Ok(found);
     }
     let wrong = leads_here(alloc, ordered, number, &block.name, home)?;
-    Ok(Fault::earlier(found, at_line(block.line, 45, wrong)))
+    Ok(Fault::earlier(found, at_line(block.line, Cause::IncludesItself, wrong)))
 }
 
 fn in_graph(
@@ -171,7 +175,8 @@ fn in_graph(
 ) -> Result<Option<Fault>, NoMemory>
     requires home { IsHome home.now }
     requires order { IsOrdered ordered.now }
-    ensures { IfOk result (λ f. f ≡ first 45 (cycles_from ordered.now.graph.now (block_names home.now.protocol.now) 0 blocks.now)) }
+    ensures { IfOk result (λ f. f ≡ first cause.IncludesItself
+        (cycles_from ordered.now.graph.now (block_names home.now.protocol.now) 0 blocks.now)) }
 {
     let mut found = None;
     for (number, block) in blocks.iter().enumerate() {
@@ -183,7 +188,7 @@ fn in_graph(
 /// The least fault of a named block that includes itself, at once or through others.
 pub fn cycles(alloc: Global, home: &Home) -> Result<Option<Fault>, NoMemory>
     requires { IsHome home.now }
-    ensures { IfOk result (λ f. f ≡ first 45 (protocol_45 home.now.protocol.now)) }
+    ensures { IfOk result (λ f. f ≡ first cause.IncludesItself (protocol_45 home.now.protocol.now)) }
 {
     cycles_found();
     let graph = graph(alloc, home)?;

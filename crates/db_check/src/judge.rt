@@ -36,7 +36,8 @@ fn names_of(alloc: Global, db: &Database) -> Result<NameIndex, DbFail>
     }
 }
 
-/// The same database, checked: it takes the names that it needs later with it. A fault has a code from 40 to 47.
+/// The same database, checked: it takes the names that it needs later with it. The code of a fault is that of its
+/// cause (`Cause`).
 pub fn check(alloc: Global, db: Database) -> Result<CheckedDb, DbFail>
     requires { is_shaped db ≡ true }
     ensures { Judges db result }

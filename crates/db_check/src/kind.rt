@@ -1,28 +1,30 @@
 ghost use Rattle.std.specs.Prelude.{◌≡◌};
 ghost use Rattle.db_check.specs.Own;
 
-/// The faults that stand at elements, each with its code.
+use db_cause::Cause;
+
+/// The faults that stand at elements.
 #[derive(Clone, Copy)]
 pub enum Kind {
-    /// 41: a name that isn't declared.
+    /// A name that isn't declared.
     Names,
-    /// 42: an expression of another type than is wanted.
+    /// An expression of another type than is wanted.
     Types,
-    /// 43: a number that is out of its limits.
+    /// A number that is out of its limits.
     Numbers,
-    /// 47: an update or a look-up that doesn't fit its table.
+    /// An update or a look-up that doesn't fit its table.
     Tables,
 }
 
 impl Kind {
-    pub fn code(self) -> u8
-        ensures { result ≡ Own.code self }
+    pub fn cause(self) -> Cause
+        ensures { result ≡ Own.cause_of self }
     {
         match self {
-            Kind::Names => 41,
-            Kind::Types => 42,
-            Kind::Numbers => 43,
-            Kind::Tables => 47,
+            Kind::Names => Cause::Undeclared,
+            Kind::Types => Cause::WrongType,
+            Kind::Numbers => Cause::OutOfLimits,
+            Kind::Tables => Cause::TableMisfit,
         }
     }
 }

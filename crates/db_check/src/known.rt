@@ -5,7 +5,7 @@ ghost use Rattle.db_model.specs.Typing.{is_among, is_protocol};
 ghost use Rattle.db_check.specs.First.{first};
 ghost use Rattle.db_model.specs.NameIndex.{IsPlaces};
 ghost use Rattle.db_check.specs.Known.{IsKnown, lines_by, lacks_summary, summary_fails, protocol_lines};
-ghost use Rattle.db_check.specs.Own.{code};
+ghost use Rattle.db_check.specs.Own.{cause_of};
 
 use crate::around::Around;
 use crate::first::at_line;
@@ -74,7 +74,7 @@ impl<'a> Known<'a> {
     ) -> Result<Option<Fault>, NoMemory>
         requires known { IsKnown self.now }
         requires there { slice_get self.now.database.now.protocols number ≡ Some protocol.now }
-        ensures { IfOk result (λ f. f ≡ first (code kind) (protocol_lines self.now.database.now kind protocol.now)) }
+        ensures { IfOk result (λ f. f ≡ first (cause_of kind) (protocol_lines self.now.database.now kind protocol.now)) }
     {
         let fields = self.names.fields_at(number);
         let places = Places::of(alloc, fields)?;
@@ -84,7 +84,7 @@ impl<'a> Known<'a> {
     /// The least fault of this kind in all protocols.
     pub fn in_protocols(&self, alloc: Global, kind: Kind) -> Result<Option<Fault>, NoMemory>
         requires { IsKnown self.now }
-        ensures { IfOk result (λ f. f ≡ first (code kind) (over (protocol_lines self.now.database.now kind) self.now.database.now.protocols)) }
+        ensures { IfOk result (λ f. f ≡ first (cause_of kind) (over (protocol_lines self.now.database.now kind) self.now.database.now.protocols)) }
     {
         self.in_each(alloc, kind, self.database.protocols.as_slice())
     }
@@ -97,7 +97,7 @@ impl<'a> Known<'a> {
     ) -> Result<Option<Fault>, NoMemory>
         requires known { IsKnown self.now }
         requires all { protocols.now ≡ self.now.database.now.protocols }
-        ensures { IfOk result (λ f. f ≡ first (code kind) (over (protocol_lines self.now.database.now kind) protocols.now)) }
+        ensures { IfOk result (λ f. f ≡ first (cause_of kind) (over (protocol_lines self.now.database.now kind) protocols.now)) }
     {
         let mut found = None;
         for (number, protocol) in protocols.iter().enumerate() {
@@ -119,7 +119,7 @@ fn in_scope<'a, 'f>(
     requires known { IsKnown known.now }
     requires there { slice_get known.now.database.now.protocols number ≡ Some protocol.now }
     requires places { IsPlaces fields.now places.now }
-    ensures { result ≡ first (code kind) (lines_by known.now.database.now fields.now kind protocol.now) }
+    ensures { result ≡ first (cause_of kind) (lines_by known.now.database.now fields.now kind protocol.now) }
 {
     let scope = Scope {
         database: known.database,
@@ -134,6 +134,6 @@ fn in_scope<'a, 'f>(
         protocol,
     };
     let wrong = known.summary_fails(kind, &protocol.showsum);
-    let own = at_line(protocol.line, kind.code(), wrong);
+    let own = at_line(protocol.line, kind.cause(), wrong);
     Fault::earlier(own, in_protocol(kind, &around))
 }

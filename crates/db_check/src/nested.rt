@@ -1,6 +1,7 @@
 //! Included blocks: those that include themselves, and those that stand too deep in one another.
 
 ghost use Rattle.std.specs.Prelude.{◌≡◌, IfOk};
+ghost use Rattle.db_cause.specs.declared.cause.Cause.TheVariants as cause;
 ghost use Rattle.db_model.specs.BlockFaults.{protocol_45, protocol_46, fault_45, fault_46};
 ghost use Rattle.db_model.specs.Lines.{over};
 ghost use Rattle.db_check.specs.First.{first};
@@ -12,6 +13,7 @@ use crate::first::at_line;
 use crate::heights::{heights_of, is_within};
 use crate::home::Home;
 use crate::known::Known;
+use db_cause::Cause;
 use db_laws::cycles_found;
 use db_model::{Fault, NoMemory, Protocol};
 use std::alloc::Global;
@@ -19,9 +21,9 @@ use std::alloc::Global;
 /// The least faults of both kinds.
 #[derive(Clone, Copy)]
 pub struct Nested {
-    /// 45
+    /// Of blocks that include themselves.
     pub cycles: Option<Fault>,
-    /// 46
+    /// Of protocols in which blocks and loops stand too deep.
     pub depths: Option<Fault>,
 }
 
@@ -29,7 +31,8 @@ pub struct Nested {
 #[tactic(auto, using(crate::proofs::Acyclic::deep_here))]
 fn of_protocol(alloc: Global, home: &Home) -> Result<Nested, NoMemory>
     requires { IsHome home.now }
-    ensures { IfOk result (λ n. (n.cycles ≡ first 45 (protocol_45 home.now.protocol.now)) × (n.depths ≡ first 46 (protocol_46 home.now.protocol.now))) }
+    ensures { IfOk result (λ n. (n.cycles ≡ first cause.IncludesItself (protocol_45 home.now.protocol.now))
+        × (n.depths ≡ first cause.NestedTooDeep (protocol_46 home.now.protocol.now))) }
 {
     cycles_found();
     let heights = heights_of(alloc, home)?;
@@ -40,7 +43,7 @@ fn of_protocol(alloc: Global, home: &Home) -> Result<Nested, NoMemory>
         });
     }
     let cycles = cycles(alloc, home)?;
-    let depths = at_line(home.protocol.line, 46, cycles.is_none());
+    let depths = at_line(home.protocol.line, Cause::NestedTooDeep, cycles.is_none());
     Ok(Nested { cycles, depths })
 }
 
@@ -48,7 +51,8 @@ fn of_protocol(alloc: Global, home: &Home) -> Result<Nested, NoMemory>
 #[tactic(auto, unfolding(db_model::specs::BlockFaults::fault_45, db_model::specs::BlockFaults::fault_46))]
 pub fn of_protocols(alloc: Global, known: &Known) -> Result<Nested, NoMemory>
     requires { IsKnown known.now }
-    ensures { IfOk result (λ n. (n.cycles ≡ first 45 (fault_45 known.now.database.now)) × (n.depths ≡ first 46 (fault_46 known.now.database.now))) }
+    ensures { IfOk result (λ n. (n.cycles ≡ first cause.IncludesItself (fault_45 known.now.database.now))
+        × (n.depths ≡ first cause.NestedTooDeep (fault_46 known.now.database.now))) }
 {
     of_each(alloc, known.database.protocols.as_slice(), known)
 }
@@ -60,7 +64,8 @@ fn of_each<'a>(
 ) -> Result<Nested, NoMemory>
     requires known { IsKnown known.now }
     requires all { protocols.now ≡ known.now.database.now.protocols }
-    ensures { IfOk result (λ n. (n.cycles ≡ first 45 (over protocol_45 protocols.now)) × (n.depths ≡ first 46 (over protocol_46 protocols.now))) }
+    ensures { IfOk result (λ n. (n.cycles ≡ first cause.IncludesItself (over protocol_45 protocols.now))
+        × (n.depths ≡ first cause.NestedTooDeep (over protocol_46 protocols.now))) }
 {
     let mut cycles = None;
     let mut depths = None;

@@ -1,6 +1,7 @@
 //! Numbers of declarations that are out of their limits, and declarations of which there are too many.
 
 ghost use Rattle.std.specs.Prelude.{◌≡◌, map};
+ghost use Rattle.db_cause.specs.declared.cause.Cause.TheVariants as cause;
 ghost use Rattle.db_model.specs.Lines.{over};
 ghost use Rattle.db_model.specs.NumberFaults;
 ghost use Rattle.db_check.specs.First.{first};
@@ -9,29 +10,30 @@ ghost use Rattle.db_check.specs.Entries.{too_many_entries, table_lines};
 use crate::first::at_line;
 use crate::limits::{group_is_outside, is_outside, size_is_outside};
 use crate::located::Located;
+use db_cause::Cause;
 use db_model::{
     ColumnDecl, Fault, KeyDecl, MOST_EXACT, MOST_EXACT_OVER_ALL, MOST_KEY_SIZE, MOST_MASKED,
     ShowTemplate, TableDecl,
 };
 
 fn of_keys(keys: &[KeyDecl]) -> Option<Fault>
-    ensures { result ≡ first 43 (over NumberFaults.key_43 keys.now) }
+    ensures { result ≡ first cause.OutOfLimits (over NumberFaults.key_43 keys.now) }
 {
     let mut found = None;
     for key in keys {
         let wrong = is_outside(1, MOST_KEY_SIZE, key.size);
-        found = Fault::earlier(found, at_line(key.line, 43, wrong));
+        found = Fault::earlier(found, at_line(key.line, Cause::OutOfLimits, wrong));
     }
     found
 }
 
 fn of_columns(columns: &[ColumnDecl]) -> Option<Fault>
-    ensures { result ≡ first 43 (over NumberFaults.column_43 columns.now) }
+    ensures { result ≡ first cause.OutOfLimits (over NumberFaults.column_43 columns.now) }
 {
     let mut found = None;
     for column in columns {
         let wrong = size_is_outside(column.size);
-        found = Fault::earlier(found, at_line(column.line, 43, wrong));
+        found = Fault::earlier(found, at_line(column.line, Cause::OutOfLimits, wrong));
     }
     found
 }
@@ -46,11 +48,15 @@ fn has_too_many_entries(before: u64, table: &TableDecl) -> bool
 }
 
 /// The least fault of a table and what it declares.
-#[tactic(auto, using(crate::proofs::FirstFault::first_append))]
+#[tactic(auto, using(crate::proofs::Declarations::limits_append))]
 fn of_table(before: u64, table: &TableDecl) -> Option<Fault>
-    ensures { result ≡ first 43 (table_lines before table.now) }
+    ensures { result ≡ first cause.OutOfLimits (table_lines before table.now) }
 {
-    let own = at_line(table.line, 43, has_too_many_entries(before, table));
+    let own = at_line(
+        table.line,
+        Cause::OutOfLimits,
+        has_too_many_entries(before, table),
+    );
     let keys = of_keys(table.keys.as_slice());
     let columns = of_columns(table.columns.as_slice());
     Fault::earlier(own, Fault::earlier(keys, columns))
@@ -58,7 +64,7 @@ fn of_table(before: u64, table: &TableDecl) -> Option<Fault>
 
 /// The exact entries of all tables together count.
 pub fn of_tables(tables: &[TableDecl]) -> Option<Fault>
-    ensures { result ≡ first 43 (NumberFaults.tables_43 0 tables.now) }
+    ensures { result ≡ first cause.OutOfLimits (NumberFaults.tables_43 0 tables.now) }
 {
     let mut found = None;
     let mut before: u64 = 0;
@@ -70,22 +76,22 @@ pub fn of_tables(tables: &[TableDecl]) -> Option<Fault>
 }
 
 pub fn of_templates(templates: &[ShowTemplate]) -> Option<Fault>
-    ensures { result ≡ first 43 (over NumberFaults.template_43 templates.now) }
+    ensures { result ≡ first cause.OutOfLimits (over NumberFaults.template_43 templates.now) }
 {
     let mut found = None;
     for template in templates {
         let wrong = group_is_outside(template.show_type, template.group);
-        found = Fault::earlier(found, at_line(template.line, 43, wrong));
+        found = Fault::earlier(found, at_line(template.line, Cause::OutOfLimits, wrong));
     }
     found
 }
 
 /// The first declaration too many.
 pub fn too_many<T: Located>(most: u32, declared: &[T]) -> Option<Fault>
-    ensures { result ≡ first 43 (NumberFaults.too_many most (map T.at declared.now)) }
+    ensures { result ≡ first cause.OutOfLimits (NumberFaults.too_many most (map T.at declared.now)) }
 {
     match declared.get(most as usize) {
-        Some(declaration) => at_line(declaration.line(), 43, true),
+        Some(declaration) => at_line(declaration.line(), Cause::OutOfLimits, true),
         None => None,
     }
 }

@@ -1,6 +1,7 @@
 //! The least of all faults of a database.
 
 ghost use Rattle.std.specs.Prelude.{◌≡◌, IfOk};
+ghost use Rattle.db_cause.specs.declared.cause.Cause.TheVariants as cause;
 ghost use Rattle.db_model.specs.BlockFaults.{fault_45, fault_46};
 ghost use Rattle.db_model.specs.NameFaults.{fault_41};
 ghost use Rattle.db_model.specs.NameIndex.{IsIndex};
@@ -8,13 +9,14 @@ ghost use Rattle.db_model.specs.NumberFaults.{fault_43, fault_44};
 ghost use Rattle.db_model.specs.Objection;
 ghost use Rattle.db_model.specs.TypeFaults.{fault_42, fault_47};
 ghost use Rattle.db_check.specs.First.{first};
-ghost use Rattle.db_check.specs.Entries.{counts_43};
+ghost use Rattle.db_check.specs.Entries.{excess_lines};
 ghost use Rattle.db_check.specs.Known.{IsKnown};
 
 use crate::first::at_line;
 use crate::kind::Kind;
 use crate::known::Known;
 use crate::{nested, numbers, repeats, rows, uses};
+use db_cause::Cause;
 use db_model::{
     Database, Fault, MOST_PROTOCOLS, MOST_SHOW_TEMPLATES, MOST_SUM_TEMPLATES, MOST_TABLES,
     MOST_VARIABLES, NameIndex, NoMemory, Places,
@@ -25,10 +27,14 @@ use std::alloc::Global;
 #[tactic(auto, using(crate::proofs::Whole::all_41))]
 fn of_names(alloc: Global, known: &Known) -> Result<Option<Fault>, NoMemory>
     requires { IsKnown known.now }
-    ensures { IfOk result (λ f. f ≡ first 41 (fault_41 known.now.database.now)) }
+    ensures { IfOk result (λ f. f ≡ first cause.Undeclared (fault_41 known.now.database.now)) }
 {
     let database = known.database;
-    let start = at_line(database.line, 41, !known.has_protocol(b"startproto"));
+    let start = at_line(
+        database.line,
+        Cause::Undeclared,
+        !known.has_protocol(b"startproto"),
+    );
     let literals = uses::unknown_literals(database.variables.as_slice(), known);
     let templates = uses::of_templates(database.sum_templates.as_slice(), known);
     let protocols = known.in_protocols(alloc, Kind::Names)?;
@@ -40,7 +46,7 @@ fn of_names(alloc: Global, known: &Known) -> Result<Option<Fault>, NoMemory>
 #[tactic(auto, using(crate::proofs::Whole::all_42))]
 fn of_types(alloc: Global, known: &Known) -> Result<Option<Fault>, NoMemory>
     requires { IsKnown known.now }
-    ensures { IfOk result (λ f. f ≡ first 42 (fault_42 known.now.database.now)) }
+    ensures { IfOk result (λ f. f ≡ first cause.WrongType (fault_42 known.now.database.now)) }
 {
     let literals = uses::wrong_literals(known.database.variables.as_slice(), known);
     let protocols = known.in_protocols(alloc, Kind::Types)?;
@@ -50,7 +56,7 @@ fn of_types(alloc: Global, known: &Known) -> Result<Option<Fault>, NoMemory>
 /// Declarations of which there are too many.
 #[tactic(auto, using(crate::proofs::Whole::counts_are))]
 fn of_counts(database: &Database) -> Option<Fault>
-    ensures { result ≡ first 43 (counts_43 database.now) }
+    ensures { result ≡ first cause.OutOfLimits (excess_lines database.now) }
 {
     let protocols = numbers::too_many(MOST_PROTOCOLS, database.protocols.as_slice());
     let variables = numbers::too_many(MOST_VARIABLES, database.variables.as_slice());
@@ -66,7 +72,7 @@ fn of_counts(database: &Database) -> Option<Fault>
 #[tactic(auto, using(crate::proofs::Whole::all_43))]
 fn of_numbers(alloc: Global, known: &Known) -> Result<Option<Fault>, NoMemory>
     requires { IsKnown known.now }
-    ensures { IfOk result (λ f. f ≡ first 43 (fault_43 known.now.database.now)) }
+    ensures { IfOk result (λ f. f ≡ first cause.OutOfLimits (fault_43 known.now.database.now)) }
 {
     let database = known.database;
     let tables = numbers::of_tables(database.tables.as_slice());
@@ -79,7 +85,7 @@ fn of_numbers(alloc: Global, known: &Known) -> Result<Option<Fault>, NoMemory>
 /// Bit fields that aren't followed by their like.
 #[tactic(auto, using(crate::proofs::Whole::all_44))]
 fn of_rows(database: &Database) -> Option<Fault>
-    ensures { result ≡ first 44 (fault_44 database.now) }
+    ensures { result ≡ first cause.UnfollowedBits (fault_44 database.now) }
 {
     rows::in_protocols(database.protocols.as_slice())
 }
@@ -88,7 +94,7 @@ fn of_rows(database: &Database) -> Option<Fault>
 #[tactic(auto, using(crate::proofs::Whole::all_47))]
 fn of_tables(alloc: Global, known: &Known) -> Result<Option<Fault>, NoMemory>
     requires { IsKnown known.now }
-    ensures { IfOk result (λ f. f ≡ first 47 (fault_47 known.now.database.now)) }
+    ensures { IfOk result (λ f. f ≡ first cause.TableMisfit (fault_47 known.now.database.now)) }
 {
     known.in_protocols(alloc, Kind::Tables)
 }

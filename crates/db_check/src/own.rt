@@ -15,7 +15,7 @@ ghost use Rattle.db_check.specs.Around.{IsAround, own_in};
 ghost use Rattle.db_check.specs.First.{first};
 ghost use Rattle.db_check.specs.Layer.{own_at};
 ghost use Rattle.db_check.specs.Own;
-ghost use Rattle.db_check.specs.Own.{code};
+ghost use Rattle.db_check.specs.Own.{cause_of};
 
 use crate::around::Around;
 use crate::first::at_line;
@@ -159,12 +159,12 @@ fn update_fails(
 
 fn of_keys(kind: Kind, keys: &[UpdateKey], around: &Around) -> Option<Fault>
     requires { IsAround around.now }
-    ensures { result ≡ first (code kind) (over (Own.key_lines around.now.scope.database.now around.now.scope.fields.now (block_names around.now.protocol.now) kind) keys.now) }
+    ensures { result ≡ first (cause_of kind) (over (Own.key_lines around.now.scope.database.now around.now.scope.fields.now (block_names around.now.protocol.now) kind) keys.now) }
 {
     let mut found = None;
     for key in keys {
         let wrong = fails(kind, Some(Ty::Buf), &key.value, around);
-        found = Fault::earlier(found, at_line(key.line, kind.code(), wrong));
+        found = Fault::earlier(found, at_line(key.line, kind.cause(), wrong));
     }
     found
 }
@@ -182,12 +182,12 @@ fn wanted_at(columns: &[ColumnDecl], place: usize) -> Option<Ty>
 /// The values of a row, each of which has to have the type of its column.
 fn of_row(kind: Kind, columns: &[ColumnDecl], row: &[UpdateValue], around: &Around) -> Option<Fault>
     requires { IsAround around.now }
-    ensures { result ≡ first (code kind) (over (Own.value_lines around.now.scope.database.now around.now.scope.fields.now (block_names around.now.protocol.now) kind) (column_wants columns.now row.now)) }
+    ensures { result ≡ first (cause_of kind) (over (Own.value_lines around.now.scope.database.now around.now.scope.fields.now (block_names around.now.protocol.now) kind) (column_wants columns.now row.now)) }
 {
     let mut found = None;
     for (i, value) in row.iter().enumerate() {
         let wrong = fails(kind, wanted_at(columns, i), &value.value, around);
-        found = Fault::earlier(found, at_line(value.line, kind.code(), wrong));
+        found = Fault::earlier(found, at_line(value.line, kind.cause(), wrong));
     }
     found
 }
@@ -202,12 +202,12 @@ fn case_fails(kind: Kind, case: &Case) -> bool
 }
 
 fn of_cases(kind: Kind, cases: &[Case]) -> Option<Fault>
-    ensures { result ≡ first (code kind) (over (λ (c : Case). Lines.at_line c.line (Own.case_fails kind c.value c.maxvalue)) cases.now) }
+    ensures { result ≡ first (cause_of kind) (over (λ (c : Case). Lines.at_line c.line (Own.case_fails kind c.value c.maxvalue)) cases.now) }
 {
     let mut found = None;
     for case in cases {
         let wrong = case_fails(kind, case);
-        found = Fault::earlier(found, at_line(case.line, kind.code(), wrong));
+        found = Fault::earlier(found, at_line(case.line, kind.cause(), wrong));
     }
     found
 }
@@ -221,7 +221,7 @@ fn of_parts(
     around: &Around,
 ) -> Option<Fault>
     requires { IsAround around.now }
-    ensures { result ≡ first (code kind) (Own.update_lines around.now.scope.database.now around.now.scope.fields.now (block_names around.now.protocol.now) kind table.now keys.now row.now) }
+    ensures { result ≡ first (cause_of kind) (Own.update_lines around.now.scope.database.now around.now.scope.fields.now (block_names around.now.protocol.now) kind table.now keys.now row.now) }
 {
     let scope = &around.scope;
     let at = scope.names.table_at(scope.database, table.as_slice());
@@ -243,17 +243,17 @@ fn of_update(
     around: &Around,
 ) -> Option<Fault>
     requires { IsAround around.now }
-    ensures { result ≡ first (code kind) (Lines.at_line line (Own.update_fails around.now.scope.database.now around.now.scope.fields.now (block_names around.now.protocol.now) kind table.now times.validity times.keep times.hit keys.now row.now) ++ Own.update_lines around.now.scope.database.now around.now.scope.fields.now (block_names around.now.protocol.now) kind table.now keys.now row.now) }
+    ensures { result ≡ first (cause_of kind) (Lines.at_line line (Own.update_fails around.now.scope.database.now around.now.scope.fields.now (block_names around.now.protocol.now) kind table.now times.validity times.keep times.hit keys.now row.now) ++ Own.update_lines around.now.scope.database.now around.now.scope.fields.now (block_names around.now.protocol.now) kind table.now keys.now row.now) }
 {
     let wrong = update_fails(kind, table, times, keys, row, around);
-    let own = at_line(line, kind.code(), wrong);
+    let own = at_line(line, kind.cause(), wrong);
     Fault::earlier(own, of_parts(kind, table, keys, row, around))
 }
 
 /// The least fault of this kind of an element itself.
 pub fn own(kind: Kind, element: &Element, around: &Around) -> Option<Fault>
     requires { IsAround around.now }
-    ensures { result ≡ first (code kind) (own_at (own_in around.now kind) element.now) }
+    ensures { result ≡ first (cause_of kind) (own_at (own_in around.now kind) element.now) }
 {
     match element {
         Element::Field {
@@ -261,9 +261,9 @@ pub fn own(kind: Kind, element: &Element, around: &Around) -> Option<Fault>
             form,
             show,
             ..
-        } => at_line(*line, kind.code(), field_fails(kind, form, show, around)),
+        } => at_line(*line, kind.cause(), field_fails(kind, form, show, around)),
         Element::IncludeBlock { line, name } => {
-            at_line(*line, kind.code(), include_fails(kind, name, around))
+            at_line(*line, kind.cause(), include_fails(kind, name, around))
         }
         Element::Loop { line, expr, .. } => of_number(kind, *line, expr, around),
         Element::Switch {
@@ -277,7 +277,7 @@ pub fn own(kind: Kind, element: &Element, around: &Around) -> Option<Fault>
         ),
         Element::If { line, expr, .. } => of_number(kind, *line, expr, around),
         Element::Assign { line, name, value } => {
-            at_line(*line, kind.code(), assign_fails(kind, name, value, around))
+            at_line(*line, kind.cause(), assign_fails(kind, name, value, around))
         }
         Element::Update {
             line,
@@ -298,7 +298,7 @@ pub fn own(kind: Kind, element: &Element, around: &Around) -> Option<Fault>
         }
         Element::NextProto { line, proto } => {
             let wrong = fails(kind, Some(Ty::Proto), proto, around);
-            at_line(*line, kind.code(), wrong)
+            at_line(*line, kind.cause(), wrong)
         }
         _ => None,
     }
@@ -307,7 +307,7 @@ pub fn own(kind: Kind, element: &Element, around: &Around) -> Option<Fault>
 /// An expression that has to give a number.
 fn of_number(kind: Kind, line: u32, e: &Expr, around: &Around) -> Option<Fault>
     requires { IsAround around.now }
-    ensures { result ≡ first (code kind) (Lines.at_line line (Own.fails around.now.scope.database.now around.now.scope.fields.now (block_names around.now.protocol.now) kind (Some Num) e.now)) }
+    ensures { result ≡ first (cause_of kind) (Lines.at_line line (Own.fails around.now.scope.database.now around.now.scope.fields.now (block_names around.now.protocol.now) kind (Some Num) e.now)) }
 {
-    at_line(line, kind.code(), fails(kind, Some(Ty::Num), e, around))
+    at_line(line, kind.cause(), fails(kind, Some(Ty::Num), e, around))
 }

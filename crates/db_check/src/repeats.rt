@@ -1,6 +1,7 @@
 //! Names that are declared twice.
 
 ghost use Rattle.std.specs.Prelude.{◌≡◌, ◌||◌, [], ◌∷◌, map, nat_lt, IfOk};
+ghost use Rattle.db_cause.specs.declared.cause.Cause.TheVariants as cause;
 ghost use Rattle.db_model.specs.Lines.{over, over_option};
 ghost use Rattle.db_model.specs.NameFaults.{repeated, repeated_in_table, repeated_blocks, repeated_sections, payload_name, fault_40};
 ghost use Rattle.db_model.specs.Special.{special_names};
@@ -10,6 +11,7 @@ ghost use Rattle.db_check.specs.First.{first};
 use crate::first::at_line;
 use crate::located::Located;
 use crate::parts;
+use db_cause::Cause;
 use db_model::{
     Database, Declaration, Fault, NoMemory, Places, Protocol, SumStruct, TableDecl, VarDecl,
     place_of,
@@ -36,7 +38,7 @@ pub fn repeated<B: Declaration, T: Located>(
     taken: &[B],
     declared: &[T],
 ) -> Result<Option<Fault>, NoMemory>
-    ensures { IfOk result (λ f. f ≡ first 40 (repeated (map B.named taken.now) (map (λ d. (T.named d, T.at d)) declared.now))) }
+    ensures { IfOk result (λ f. f ≡ first cause.DeclaredAgain (repeated (map B.named taken.now) (map (λ d. (T.named d, T.at d)) declared.now))) }
 {
     let places = Places::of(alloc, declared)?;
     let mut found = None;
@@ -44,7 +46,10 @@ pub fn repeated<B: Declaration, T: Located>(
         let name = declaration.name();
         let place = places.place_of(name, declared.len());
         let again = stands_before(place, i, name, taken);
-        found = Fault::earlier(found, at_line(declaration.line(), 40, again));
+        found = Fault::earlier(
+            found,
+            at_line(declaration.line(), Cause::DeclaredAgain, again),
+        );
     }
     Ok(found)
 }
@@ -82,27 +87,27 @@ const SPECIAL_NAMES: [Reserved; 5] = [
 ];
 
 fn of_protocols(alloc: Global, protocols: &[Protocol]) -> Result<Option<Fault>, NoMemory>
-    ensures { IfOk result (λ f. f ≡ first 40 (repeated (payload_name ∷ []) (map (λ d. (d.name, d.line)) protocols.now))) }
+    ensures { IfOk result (λ f. f ≡ first cause.DeclaredAgain (repeated (payload_name ∷ []) (map (λ d. (d.name, d.line)) protocols.now))) }
 {
     repeated(alloc, &PAYLOAD_NAME, protocols)
 }
 
 fn of_variables(alloc: Global, variables: &[VarDecl]) -> Result<Option<Fault>, NoMemory>
-    ensures { IfOk result (λ f. f ≡ first 40 (repeated special_names (map (λ d. (d.name, d.line)) variables.now))) }
+    ensures { IfOk result (λ f. f ≡ first cause.DeclaredAgain (repeated special_names (map (λ d. (d.name, d.line)) variables.now))) }
 {
     repeated(alloc, &SPECIAL_NAMES, variables)
 }
 
 /// Declarations of one space in which each name may be declared.
 fn of_all<T: Located>(alloc: Global, declared: &[T]) -> Result<Option<Fault>, NoMemory>
-    ensures { IfOk result (λ f. f ≡ first 40 (repeated [] (map (λ d. (T.named d, T.at d)) declared.now))) }
+    ensures { IfOk result (λ f. f ≡ first cause.DeclaredAgain (repeated [] (map (λ d. (T.named d, T.at d)) declared.now))) }
 {
     repeated(alloc, &NO_NAMES, declared)
 }
 
 /// The keys and the data of a table are one space.
 fn of_table(alloc: Global, table: &TableDecl) -> Result<Option<Fault>, NoMemory>
-    ensures { IfOk result (λ f. f ≡ first 40 (repeated_in_table table.now)) }
+    ensures { IfOk result (λ f. f ≡ first cause.DeclaredAgain (repeated_in_table table.now)) }
 {
     let keys = table.keys.as_slice();
     let again = of_all(alloc, keys)?;
@@ -111,7 +116,7 @@ fn of_table(alloc: Global, table: &TableDecl) -> Result<Option<Fault>, NoMemory>
 }
 
 fn in_tables(alloc: Global, tables: &[TableDecl]) -> Result<Option<Fault>, NoMemory>
-    ensures { IfOk result (λ f. f ≡ first 40 (over repeated_in_table tables.now)) }
+    ensures { IfOk result (λ f. f ≡ first cause.DeclaredAgain (over repeated_in_table tables.now)) }
 {
     let mut found = None;
     for table in tables {
@@ -121,7 +126,7 @@ fn in_tables(alloc: Global, tables: &[TableDecl]) -> Result<Option<Fault>, NoMem
 }
 
 fn in_summary(alloc: Global, summary: &Option<SumStruct>) -> Result<Option<Fault>, NoMemory>
-    ensures { IfOk result (λ f. f ≡ first 40 (over_option repeated_sections summary.now)) }
+    ensures { IfOk result (λ f. f ≡ first cause.DeclaredAgain (over_option repeated_sections summary.now)) }
 {
     match summary {
         None => Ok(None),
@@ -130,7 +135,7 @@ fn in_summary(alloc: Global, summary: &Option<SumStruct>) -> Result<Option<Fault
 }
 
 fn in_protocols(alloc: Global, protocols: &[Protocol]) -> Result<Option<Fault>, NoMemory>
-    ensures { IfOk result (λ f. f ≡ first 40 (over repeated_blocks protocols.now)) }
+    ensures { IfOk result (λ f. f ≡ first cause.DeclaredAgain (over repeated_blocks protocols.now)) }
 {
     let mut found = None;
     for protocol in protocols {
@@ -142,7 +147,7 @@ fn in_protocols(alloc: Global, protocols: &[Protocol]) -> Result<Option<Fault>, 
 
 /// The least fault of a name that is declared before, or may not be declared.
 pub fn in_database(alloc: Global, database: &Database) -> Result<Option<Fault>, NoMemory>
-    ensures { IfOk result (λ f. f ≡ first 40 (fault_40 database.now)) }
+    ensures { IfOk result (λ f. f ≡ first cause.DeclaredAgain (fault_40 database.now)) }
 {
     let protocols = of_protocols(alloc, database.protocols.as_slice())?;
     let variables = of_variables(alloc, database.variables.as_slice())?;

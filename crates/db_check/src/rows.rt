@@ -1,6 +1,7 @@
 //! Bit fields that aren't followed by their like.
 
 ghost use Rattle.std.specs.Prelude.{◌≡◌, map};
+ghost use Rattle.db_cause.specs.declared.cause.Cause.TheVariants as cause;
 ghost use Rattle.db_model.specs.Lines.{over};
 ghost use Rattle.db_model.specs.NumberFaults;
 ghost use Rattle.db_check.specs.First.{first};
@@ -8,6 +9,7 @@ ghost use Rattle.db_check.specs.Rows.{in_row_of, rows_of_cases, rows_of_other, r
 
 use crate::first::at_line;
 use crate::parts;
+use db_cause::Cause;
 use db_model::{Branch, Case, Element, Fault, FieldForm, NamedBlock, Protocol};
 
 /// The size and the mask of a bit field.
@@ -78,12 +80,12 @@ fn is_unfollowed(bit: Option<(u32, u32)>, behind: &[Element]) -> bool
 /// The least fault of a list, and of those in its elements.
 #[cycle(rows)]
 fn of_list(elements: &[Element]) -> Option<Fault>
-    ensures { result ≡ first 44 (NumberFaults.list_44 elements.now) }
+    ensures { result ≡ first cause.UnfollowedBits (NumberFaults.list_44 elements.now) }
 {
     let mut found = None;
     for (i, element) in elements.iter().enumerate() {
         let wrong = is_unfollowed(bit_of(element), &elements[i + 1..]);
-        let own = at_line(line_of(element), 44, wrong);
+        let own = at_line(line_of(element), Cause::UnfollowedBits, wrong);
         found = Fault::earlier(found, Fault::earlier(own, within(element)));
     }
     found
@@ -91,7 +93,7 @@ fn of_list(elements: &[Element]) -> Option<Fault>
 
 #[cycle(rows)]
 fn within(element: &Element) -> Option<Fault>
-    ensures { result ≡ first 44 (in_row_of element.now).within }
+    ensures { result ≡ first cause.UnfollowedBits (in_row_of element.now).within }
 {
     match element {
         Element::Block { body, .. } => of_list(body.as_slice()),
@@ -112,7 +114,7 @@ fn within(element: &Element) -> Option<Fault>
 
 #[cycle(rows)]
 fn of_cases(cases: &[Case]) -> Option<Fault>
-    ensures { result ≡ first 44 (rows_of_cases cases.now) }
+    ensures { result ≡ first cause.UnfollowedBits (rows_of_cases cases.now) }
 {
     let mut found = None;
     for case in cases {
@@ -123,7 +125,7 @@ fn of_cases(cases: &[Case]) -> Option<Fault>
 
 #[cycle(rows)]
 fn of_branch(branch: &Option<Branch>) -> Option<Fault>
-    ensures { result ≡ first 44 (rows_of_other branch.now) }
+    ensures { result ≡ first cause.UnfollowedBits (rows_of_other branch.now) }
 {
     match branch {
         Some(branch) => of_list(branch.body.as_slice()),
@@ -132,7 +134,7 @@ fn of_branch(branch: &Option<Branch>) -> Option<Fault>
 }
 
 fn of_blocks(blocks: &[NamedBlock]) -> Option<Fault>
-    ensures { result ≡ first 44 (rows_of_blocks blocks.now) }
+    ensures { result ≡ first cause.UnfollowedBits (rows_of_blocks blocks.now) }
 {
     let mut found = None;
     for block in blocks {
@@ -142,9 +144,9 @@ fn of_blocks(blocks: &[NamedBlock]) -> Option<Fault>
 }
 
 /// The least fault of this kind in the fields of a protocol.
-#[tactic(auto, using(crate::proofs::FirstFault::first_append))]
+#[tactic(auto, using(crate::proofs::InRows::rows_append))]
 fn in_protocol(protocol: &Protocol) -> Option<Fault>
-    ensures { result ≡ first 44 (rows_in protocol.now) }
+    ensures { result ≡ first cause.UnfollowedBits (rows_in protocol.now) }
 {
     Fault::earlier(
         of_list(parts::fields(protocol)),
@@ -153,7 +155,7 @@ fn in_protocol(protocol: &Protocol) -> Option<Fault>
 }
 
 pub fn in_protocols(protocols: &[Protocol]) -> Option<Fault>
-    ensures { result ≡ first 44 (over rows_in protocols.now) }
+    ensures { result ≡ first cause.UnfollowedBits (over rows_in protocols.now) }
 {
     let mut found = None;
     for protocol in protocols {

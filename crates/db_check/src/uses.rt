@@ -1,6 +1,7 @@
 //! Names that are used by declarations outside of protocols, and the types of their literals.
 
 ghost use Rattle.std.specs.Prelude.{◌≡◌, map};
+ghost use Rattle.db_cause.specs.declared.cause.Cause.TheVariants as cause;
 ghost use Rattle.db_model.specs.Lines.{over};
 ghost use Rattle.db_model.specs.NameFaults;
 ghost use Rattle.db_model.specs.TypeFaults;
@@ -12,6 +13,7 @@ ghost use Rattle.db_model.specs.Typing.{is_among};
 use crate::first::at_line;
 use crate::known::Known;
 use crate::repeats::is_one_of;
+use db_cause::Cause;
 use db_model::{Fault, Literal, Name, SumItem, SumStruct, SumTemplate, Ty, VarDecl};
 
 fn literal_is_unknown(literal: &Literal, known: &Known) -> bool
@@ -38,24 +40,24 @@ fn literal_is_wrong(ty: Ty, literal: &Literal, known: &Known) -> bool
 
 pub fn unknown_literals(variables: &[VarDecl], known: &Known) -> Option<Fault>
     requires { IsKnown known.now }
-    ensures { result ≡ first 41 (over (literal_lines known.now.database.now) variables.now) }
+    ensures { result ≡ first cause.Undeclared (over (literal_lines known.now.database.now) variables.now) }
 {
     let mut found = None;
     for variable in variables {
         let wrong = literal_is_unknown(&variable.value, known);
-        found = Fault::earlier(found, at_line(variable.line, 41, wrong));
+        found = Fault::earlier(found, at_line(variable.line, Cause::Undeclared, wrong));
     }
     found
 }
 
 pub fn wrong_literals(variables: &[VarDecl], known: &Known) -> Option<Fault>
     requires { IsKnown known.now }
-    ensures { result ≡ first 42 (over (type_lines known.now.database.now) variables.now) }
+    ensures { result ≡ first cause.WrongType (over (type_lines known.now.database.now) variables.now) }
 {
     let mut found = None;
     for variable in variables {
         let wrong = literal_is_wrong(variable.ty, &variable.value, known);
-        found = Fault::earlier(found, at_line(variable.line, 42, wrong));
+        found = Fault::earlier(found, at_line(variable.line, Cause::WrongType, wrong));
     }
     found
 }
@@ -71,18 +73,22 @@ fn has_section(summary: &Option<SumStruct>, name: &Name) -> bool
 }
 
 fn of_item(item: &SumItem, known: &Known) -> Option<Fault>
-    ensures { result ≡ first 41 (NameFaults.item_41 known.now.database.now item.now) }
+    ensures { result ≡ first cause.Undeclared (NameFaults.item_41 known.now.database.now item.now) }
 {
     match item {
         SumItem::Section { line, name } => {
-            at_line(*line, 41, !has_section(&known.database.sum_struct, name))
+            at_line(
+                *line,
+                Cause::Undeclared,
+                !has_section(&known.database.sum_struct, name),
+            )
         }
         _ => None,
     }
 }
 
 fn of_items(items: &[SumItem], known: &Known) -> Option<Fault>
-    ensures { result ≡ first 41 (over (NameFaults.item_41 known.now.database.now) items.now) }
+    ensures { result ≡ first cause.Undeclared (over (NameFaults.item_41 known.now.database.now) items.now) }
 {
     let mut found = None;
     for item in items {
@@ -92,7 +98,7 @@ fn of_items(items: &[SumItem], known: &Known) -> Option<Fault>
 }
 
 pub fn of_templates(templates: &[SumTemplate], known: &Known) -> Option<Fault>
-    ensures { result ≡ first 41 (over (template_lines known.now.database.now) templates.now) }
+    ensures { result ≡ first cause.Undeclared (over (template_lines known.now.database.now) templates.now) }
 {
     let mut found = None;
     for template in templates {

@@ -5,7 +5,7 @@ ghost use Rattle.db_model.specs.Lines.{lines_of, lines_in, over};
 ghost use Rattle.db_check.specs.Around.{IsAround, own_in};
 ghost use Rattle.db_check.specs.First.{first};
 ghost use Rattle.db_check.specs.Layer.{inside_at, lines_of_cases, lines_of_other, lines_of_blocks};
-ghost use Rattle.db_check.specs.Own.{code};
+ghost use Rattle.db_check.specs.Own.{cause_of};
 
 use crate::around::Around;
 use crate::kind::Kind;
@@ -17,7 +17,7 @@ use db_model::{Branch, Case, Element, Fault, NamedBlock};
 #[cycle(walk)]
 fn of_element(kind: Kind, element: &Element, around: &Around) -> Option<Fault>
     requires { IsAround around.now }
-    ensures { result ≡ first (code kind) (lines_of (own_in around.now kind) element.now) }
+    ensures { result ≡ first (cause_of kind) (lines_of (own_in around.now kind) element.now) }
 {
     Fault::earlier(own(kind, element, around), inside(kind, element, around))
 }
@@ -25,7 +25,7 @@ fn of_element(kind: Kind, element: &Element, around: &Around) -> Option<Fault>
 #[cycle(walk)]
 fn inside(kind: Kind, element: &Element, around: &Around) -> Option<Fault>
     requires { IsAround around.now }
-    ensures { result ≡ first (code kind) (inside_at (own_in around.now kind) element.now) }
+    ensures { result ≡ first (cause_of kind) (inside_at (own_in around.now kind) element.now) }
 {
     match element {
         Element::Block { body, .. } => of_list(kind, body.as_slice(), around),
@@ -53,7 +53,7 @@ fn inside(kind: Kind, element: &Element, around: &Around) -> Option<Fault>
 #[cycle(walk)]
 fn of_list(kind: Kind, elements: &[Element], around: &Around) -> Option<Fault>
     requires { IsAround around.now }
-    ensures { result ≡ first (code kind) (over (lines_of (own_in around.now kind)) elements.now) }
+    ensures { result ≡ first (cause_of kind) (over (lines_of (own_in around.now kind)) elements.now) }
 {
     let mut found = None;
     for element in elements {
@@ -65,7 +65,7 @@ fn of_list(kind: Kind, elements: &[Element], around: &Around) -> Option<Fault>
 #[cycle(walk)]
 fn of_cases(kind: Kind, cases: &[Case], around: &Around) -> Option<Fault>
     requires { IsAround around.now }
-    ensures { result ≡ first (code kind) (lines_of_cases (own_in around.now kind) cases.now) }
+    ensures { result ≡ first (cause_of kind) (lines_of_cases (own_in around.now kind) cases.now) }
 {
     let mut found = None;
     for case in cases {
@@ -77,7 +77,7 @@ fn of_cases(kind: Kind, cases: &[Case], around: &Around) -> Option<Fault>
 #[cycle(walk)]
 fn of_branch(kind: Kind, branch: &Option<Branch>, around: &Around) -> Option<Fault>
     requires { IsAround around.now }
-    ensures { result ≡ first (code kind) (lines_of_other (own_in around.now kind) branch.now) }
+    ensures { result ≡ first (cause_of kind) (lines_of_other (own_in around.now kind) branch.now) }
 {
     match branch {
         Some(branch) => of_list(kind, branch.body.as_slice(), around),
@@ -87,7 +87,7 @@ fn of_branch(kind: Kind, branch: &Option<Branch>, around: &Around) -> Option<Fau
 
 fn of_blocks(kind: Kind, blocks: &[NamedBlock], around: &Around) -> Option<Fault>
     requires { IsAround around.now }
-    ensures { result ≡ first (code kind) (lines_of_blocks (own_in around.now kind) blocks.now) }
+    ensures { result ≡ first (cause_of kind) (lines_of_blocks (own_in around.now kind) blocks.now) }
 {
     let mut found = None;
     for block in blocks {
@@ -100,7 +100,7 @@ fn of_blocks(kind: Kind, blocks: &[NamedBlock], around: &Around) -> Option<Fault
 #[tactic(auto, using(crate::proofs::Layers::parts_first))]
 pub fn in_protocol(kind: Kind, around: &Around) -> Option<Fault>
     requires { IsAround around.now }
-    ensures { result ≡ first (code kind) (lines_in (own_in around.now kind) around.now.protocol.now) }
+    ensures { result ≡ first (cause_of kind) (lines_in (own_in around.now kind) around.now.protocol.now) }
 {
     let before = of_list(kind, parts::before(around.protocol), around);
     let fields = of_list(kind, parts::fields(around.protocol), around);

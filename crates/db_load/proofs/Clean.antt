@@ -11,11 +11,10 @@ use Rattle.db_model.specs.Names.{Text}
 use Rattle.db_text.specs.declared.node.Node.{Node, out-Node}
 use Rattle.db_load.specs.declared.kind.Kind.{Kind}
 use Rattle.db_load.specs.declared.kind.Kind.TheVariants as kind
-use Rattle.db_load.specs.declared.levels.TheConstants.{MOST_LEVELS}
 use Rattle.db_load.specs.declared.rule.Child.{Child}
 use Rattle.db_load.specs.declared.word.Word.{Word}
 use Rattle.db_load.specs.declared.word.Word.TheVariants as word
-use Rattle.db_load.specs.Faults.{Part, part, own, of_attributes, of_place, at_line, is_astray, has_wrong_children, miscounts, is_counted, count_of, names_in, row_of, of_child, below, faults, of_top, refusal}
+use Rattle.db_load.specs.Faults.{Part, part, own, of_attributes, of_place, at_line, is_astray, has_wrong_children, miscounts, is_counted, count_of, names_in, row_of, of_child, below, faults, of_top, refusal, most_levels}
 use Rattle.db_load.specs.Meaning.{Meant, meant, named, first_named}
 use Rattle.db_load.specs.Rules.{children}
 use Rattle.db_load.specs.Whole.{is, each_of, one_of}
@@ -156,10 +155,10 @@ row_counted names row rows h = first_counted (is_counted names row) (miscounts n
 
 -- ---- the top element
 
-top_by : (b : Bool) (p : Part) → (if b then p.inside kind.Netpdl MOST_LEVELS else at_line p.line 20 true) ≡ [] → p.inside kind.Netpdl MOST_LEVELS ≡ []
+top_by : (b : Bool) (p : Part) → (if b then p.inside kind.Netpdl most_levels else at_line p.line 20 true) ≡ [] → p.inside kind.Netpdl most_levels ≡ []
 top_by true p h = h
 top_by false p h = (cc)
 
-pub top_clean : (n : Node) → refusal n ≡ None → faults kind.Netpdl MOST_LEVELS n ≡ []
+pub top_clean : (n : Node) → refusal n ≡ None → faults kind.Netpdl most_levels n ≡ []
 unfolding refusal
 top_clean n h = top_by (bytes_eq (part n).name (spelled word.Netpdl)) (part n) (least_none (of_top (part n)) h)

@@ -6,10 +6,9 @@ use Rattle.db_model.specs.Names.{Text}
 use Rattle.db_text.specs.declared.node.Attribute.{Attribute}
 use Rattle.db_text.specs.declared.node.Node.{Node, out-Node}
 use Rattle.db_load.specs.declared.kind.Kind.{Kind}
-use Rattle.db_load.specs.declared.levels.TheConstants.{MOST_LEVELS}
 use Rattle.db_load.specs.declared.rule.Child.{Child}
 use Rattle.db_load.specs.declared.rule.Rule.{Rule}
-use Rattle.db_load.specs.Faults.{value_of, has_attribute, has_rule, has_stray, lacks, breaks, same, has_malformed, decided, is_wanted, is_judged, row_of, at_line, of_attributes, part, of_child, below, faults, refusal}
+use Rattle.db_load.specs.Faults.{value_of, has_attribute, has_rule, has_stray, lacks, breaks, same, has_malformed, decided, is_wanted, is_judged, row_of, at_line, of_attributes, part, of_child, below, faults, refusal, most_levels}
 use Rattle.db_load.specs.Forms.{has_form, is_parsed}
 use Rattle.db_load.specs.Laws.{Within, whole, inside, Obeys, EachHasRow, EachHasRule, EachValueFormed}
 use Rattle.db_load.specs.Rules.{rules, children}
@@ -141,7 +140,7 @@ below_at rows left (n ∷ ns) (suc i) m e b = below_at rows left ns i m e (first
 
 -- an element of a tree without faults has none
 clean_within : (top : Node) → refusal top ≡ None → {k : Kind} {n : Node} → Within top k n → (left : ℕ) × (faults k left n ≡ [])
-clean_within top h whole = (MOST_LEVELS, top_clean top h)
+clean_within top h whole = (most_levels, top_clean top h)
 clean_within top h (inside {k} {n} i m row w e r) =
     let p = clean_within top h w in
     (p.0 - 1, sym (ap (λ o. of_child o (p.0 - 1) (part m)) r) ∙ below_at (children k) (p.0 - 1) (out-Node n).children i m e (clean k p.0 n p.1).inside)

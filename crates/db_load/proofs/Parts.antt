@@ -8,13 +8,12 @@ use Rattle.db_text.specs.declared.node.Node.TheFolds.{fold_out-Node}
 use Rattle.db_model.specs.declared.fault.Fault.{Fault}
 use Rattle.db_load.specs.declared.kind.Kind.{Kind}
 use Rattle.db_load.specs.declared.kind.Kind.TheVariants as kind
-use Rattle.db_load.specs.declared.levels.TheConstants.{MOST_LEVELS}
 use Rattle.db_load.specs.declared.word.Word.TheVariants as word
 use Rattle.db_load.specs.Words.{spelled}
 use Rattle.db_load.specs.declared.rule.Child.{Child}
 use Rattle.db_model.specs.LeastFault.{earlier, least}
 use Rattle.db_model.proofs.LeastFault.{earlier_assoc, least_append}
-use Rattle.db_load.specs.Faults.{Part, part, part_step, own, of_attributes, of_place, below, names_in, of_child, row_of, at_line, faults, refusal}
+use Rattle.db_load.specs.Faults.{Part, part, part_step, own, of_attributes, of_place, below, names_in, of_child, row_of, at_line, faults, refusal, most_levels}
 use Rattle.db_load.specs.Rules.{children}
 
 -- one layer of it
@@ -69,10 +68,10 @@ below_step rows left ns i n found f g w row name hi en ename erow ef eg h =
 
 -- ---- the top element
 
-pub top_is : (n : Node) → bytes_eq (out-Node n).name (spelled word.Netpdl) ≡ true → least (faults kind.Netpdl MOST_LEVELS n) ≡ refusal n
+pub top_is : (n : Node) → bytes_eq (out-Node n).name (spelled word.Netpdl) ≡ true → least (faults kind.Netpdl most_levels n) ≡ refusal n
 unfolding refusal
-top_is n h = ap (λ (b : Bool). least (if b then faults kind.Netpdl MOST_LEVELS n else at_line (part n).line 20 true)) (sym (ap (λ t. bytes_eq t (spelled word.Netpdl)) (part_name n) ∙ h))
+top_is n h = ap (λ (b : Bool). least (if b then faults kind.Netpdl most_levels n else at_line (part n).line 20 true)) (sym (ap (λ t. bytes_eq t (spelled word.Netpdl)) (part_name n) ∙ h))
 
 pub top_is_not : (n : Node) → bytes_eq (out-Node n).name (spelled word.Netpdl) ≡ false → least (at_line (out-Node n).line 20 true) ≡ refusal n
 unfolding refusal
-top_is_not n h = ap (λ l. least (at_line l 20 true)) (sym (part_line n)) ∙ ap (λ (b : Bool). least (if b then faults kind.Netpdl MOST_LEVELS n else at_line (part n).line 20 true)) (sym (ap (λ t. bytes_eq t (spelled word.Netpdl)) (part_name n) ∙ h))
+top_is_not n h = ap (λ l. least (at_line l 20 true)) (sym (part_line n)) ∙ ap (λ (b : Bool). least (if b then faults kind.Netpdl most_levels n else at_line (part n).line 20 true)) (sym (ap (λ t. bytes_eq t (spelled word.Netpdl)) (part_name n) ∙ h))

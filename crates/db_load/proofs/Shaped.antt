@@ -16,10 +16,9 @@ use Rattle.db_model.specs.Shape.{is_list, is_list_of, item_is_shaped, column_is_
 use Rattle.db_text.specs.declared.node.Node.{Node, out-Node}
 use Rattle.db_load.specs.declared.kind.Kind.TheVariants as kind
 use Rattle.db_load.specs.declared.kind.ListKind.TheVariants as list
-use Rattle.db_load.specs.declared.levels.TheConstants.{MOST_LEVELS}
 use Rattle.db_load.specs.declared.rule.Child.{Child}
 use Rattle.db_load.specs.declared.word.Word.TheVariants as word
-use Rattle.db_load.specs.Faults.{miscounts, count_of, names_in, row_of, faults, refusal}
+use Rattle.db_load.specs.Faults.{miscounts, count_of, names_in, row_of, faults, refusal, most_levels}
 use Rattle.db_load.specs.Rules.{in_list, children}
 use Rattle.db_load.specs.Values.{name_by, section_by, filled_by, header_part_by, ty_by}
 use Rattle.db_load.specs.Whole
@@ -208,11 +207,11 @@ module _ (formed : ReadsFormed) where
   pub shaped : (n : Node) → refusal n ≡ None → is_shaped (database_of n) ≡ true
   unfolding is_shaped database_of
   shaped n h =
-      let c = clean kind.Netpdl MOST_LEVELS n (top_clean n h) in
+      let c = clean kind.Netpdl most_levels n (top_clean n h) in
       both (both (text_ok (of n word.Name)) (both (text_ok (of n word.Version)) (both (text_ok (of n word.Creator)) (text_ok (of n word.Date))))) (both
       (each_all word.Variable Whole.variable variable_is_shaped variable_good (inside n)) (both
-      (each_good (children kind.Netpdl) word.LookupTable kind.Table (MOST_LEVELS - 1) table_row Nothing Whole.table table_is_shaped (λ m q k. table_good (MOST_LEVELS - 1) m k) (inside n) (nothing (inside n)) c.inside) (both
+      (each_good (children kind.Netpdl) word.LookupTable kind.Table (most_levels - 1) table_row Nothing Whole.table table_is_shaped (λ m q k. table_good (most_levels - 1) m k) (inside n) (nothing (inside n)) c.inside) (both
       (each_all word.ShowTemplate Whole.show_template template_is_shaped template_good (inside n)) (both
-      (one_good (children kind.Netpdl) word.ShowSumStruct kind.SumStruct (MOST_LEVELS - 1) sum_struct_row Nothing Whole.sum_struct sections_are_shaped (λ m q k. sections_good (MOST_LEVELS - 1) m k) (inside n) (nothing (inside n)) c.inside) (both
+      (one_good (children kind.Netpdl) word.ShowSumStruct kind.SumStruct (most_levels - 1) sum_struct_row Nothing Whole.sum_struct sections_are_shaped (λ m q k. sections_good (most_levels - 1) m k) (inside n) (nothing (inside n)) c.inside) (both
       (each_all word.ShowSumTemplate Whole.sum_template sum_is_shaped sum_good (inside n))
-      (each_good (children kind.Netpdl) word.Protocol kind.Protocol (MOST_LEVELS - 1) protocol_row Nothing Whole.protocol protocol_is_shaped (λ m q k. protocol_good (MOST_LEVELS - 1) m k) (inside n) (nothing (inside n)) c.inside))))))
+      (each_good (children kind.Netpdl) word.Protocol kind.Protocol (most_levels - 1) protocol_row Nothing Whole.protocol protocol_is_shaped (λ m q k. protocol_good (most_levels - 1) m k) (inside n) (nothing (inside n)) c.inside))))))

@@ -8,14 +8,12 @@ use Rattle.hex.specs.Hex.{decode_of, decode_pairs, pair_value, ◌>>=◌}
 use Rattle.hex.specs.declared.error.FromHexError.{FromHexError}
 use Rattle.hex.specs.declared.error.FromHexError.TheVariants.{OddLength}
 use denote.Hole.Carrier.{hidden}
-use Rattle.db_model.specs.declared.bytes.TheConstants.{MOST_BYTES}
 use Rattle.db_model.specs.declared.element.FieldForm.TheVariants as form
 use Rattle.db_model.specs.declared.expression.Expr as expr
 use Rattle.db_model.specs.declared.expression.Expr.{Expr, end_of-Expr, more_of-Expr}
 use Rattle.db_model.specs.declared.expression.Expr.TheBlock.{hidden-the_row-Expr-0, hidden-the_row-Expr-1}
 use Rattle.db_model.specs.declared.expression.Literal.{Literal}
 use Rattle.db_model.specs.declared.expression.Literal.TheVariants as literal
-use Rattle.db_model.specs.declared.limits.TheConstants.{GREATEST_NUMBER, MOST_SEPARATOR}
 use Rattle.db_model.specs.declared.value.Ty.{Ty}
 use Rattle.db_model.specs.declared.value.Ty.TheVariants as ty
 use Rattle.db_model.specs.Folds.{fold_expr}
@@ -74,14 +72,14 @@ pub filled_ok : (t : Option Text) → is_text (filled_by t) ≡ true
 filled_ok None = refl
 filled_ok (Some t) = by_test (λ (o : Option Text). is_text (unwrap_or o [])) (is_text t) (Some t) None (λ e. e) (λ e. refl)
 
-pub separator_ok : (t : Option Text) → (is_text (separator_by t) && nat_le (length (separator_by t)) MOST_SEPARATOR) ≡ true
+pub separator_ok : (t : Option Text) → (is_text (separator_by t) && nat_le (length (separator_by t)) 8) ≡ true
 separator_ok None = refl
-separator_ok (Some t) = by_test (λ (s : Text). is_text s && nat_le (length s) MOST_SEPARATOR) (is_text t && nat_le (length t) MOST_SEPARATOR) t [] (λ e. e) (λ e. refl)
+separator_ok (Some t) = by_test (λ (s : Text). is_text s && nat_le (length s) 8) (is_text t && nat_le (length t) 8) t [] (λ e. e) (λ e. refl)
 
 -- ---- numbers and masks
 
 numeral_ok : (radix : ℕ) (b : Bool) (ds : Text) → if_there is_number (forms.numeral radix b ds) ≡ true
-numeral_ok radix b ds = by_test (λ (o : Option ℕ). if_there is_number o) (b && nat_le (digits_value radix ds) GREATEST_NUMBER) (Some (digits_value radix ds)) None (λ e. (and_parts b (nat_le (digits_value radix ds) GREATEST_NUMBER) e).1) (λ e. refl)
+numeral_ok radix b ds = by_test (λ (o : Option ℕ). if_there is_number o) (b && nat_le (digits_value radix ds) 4294967295) (Some (digits_value radix ds)) None (λ e. (and_parts b (nat_le (digits_value radix ds) 4294967295) e).1) (λ e. refl)
 
 numbers_ok : (t : Text) (o : Option Text) → if_there is_number (forms.number_by t o) ≡ true
 numbers_ok t None = numeral_ok 10 (forms.are_digits is_ascii_digit 10 t) t
@@ -97,7 +95,7 @@ has_bytes m = nat_le 1 (length m)
 
 -- some bytes, of which there is one
 abbrev is_filled : Result (List ℕ) FromHexError → Bool
-is_filled (Ok bytes) = has_bytes (take MOST_BYTES bytes)
+is_filled (Ok bytes) = has_bytes (take 262144 bytes)
 is_filled (Err e) = true
 
 front_kept : (most byte : ℕ) (bytes : List ℕ) → 0 < most → has_bytes (take most (byte ∷ bytes)) ≡ true
@@ -105,7 +103,7 @@ front_kept zero byte bytes h = absurd (omega arith)
 front_kept (suc most) byte bytes h = le-leb 1 (suc (length (take most bytes))) (omega arith)
 
 one_more : (byte : ℕ) (r : Result (List ℕ) FromHexError) → is_filled (r >>= (λ bytes. Ok (byte ∷ bytes))) ≡ true
-one_more byte (Ok bytes) = front_kept MOST_BYTES byte bytes (omega arith)
+one_more byte (Ok bytes) = front_kept 262144 byte bytes (omega arith)
 one_more byte (Err e) = refl
 
 first_byte : (high : Result ℕ FromHexError) (r : Result (List ℕ) FromHexError) → is_filled (high >>= (λ byte. r >>= (λ bytes. Ok (byte ∷ bytes)))) ≡ true

@@ -9,7 +9,6 @@ use Rattle.db_text.specs.declared.node.Node.TheFolds.{fold-Node}
 use Rattle.db_load.specs.declared.kind.Kind.{Kind}
 use Rattle.db_load.specs.declared.kind.Kind.TheVariants as kind
 use Rattle.db_load.specs.declared.kind.ListKind.TheVariants as list
-use Rattle.db_load.specs.declared.levels.TheConstants.{MOST_LEVELS}
 use Rattle.db_load.specs.declared.rule.Child.{Child}
 use Rattle.db_load.specs.declared.rule.Form.{Form}
 use Rattle.db_load.specs.declared.rule.Form.TheVariants as form
@@ -199,9 +198,13 @@ part = fold-Node Part part_step
 abbrev pub faults : Kind → ℕ → Node → List Fault
 faults k left n = (part n).inside k left
 
--- the top element is the database, in which 32 levels may stand
+-- so many elements may stand in one another, the top one counted
+abbrev pub most_levels : ℕ
+most_levels = 32
+
+-- the top element is the database
 abbrev pub of_top : Part → List Fault
-of_top p = if bytes_eq p.name (spelled word.Netpdl) then p.inside kind.Netpdl MOST_LEVELS else at_line p.line 20 true
+of_top p = if bytes_eq p.name (spelled word.Netpdl) then p.inside kind.Netpdl most_levels else at_line p.line 20 true
 
 unfoldable pub refusal : Node → Option Fault
 refusal n = least (of_top (part n))

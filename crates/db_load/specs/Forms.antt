@@ -5,15 +5,13 @@ use Rattle.std.specs.List.{list_all}
 use Rattle.std.specs.Str.Parse.{digits_value}
 use Rattle.hex.specs.Hex.{decode_of}
 use Rattle.hex.specs.declared.error.FromHexError.{FromHexError}
-use Rattle.db_model.specs.declared.bytes.TheConstants.{MOST_BYTES}
-use Rattle.db_model.specs.declared.limits.TheConstants.{GREATEST_NUMBER, MOST_SEPARATOR}
 use Rattle.db_model.specs.Forms.{is_text}
 use Rattle.db_model.specs.Name.{is_name}
 use Rattle.db_model.specs.Names.{Text}
 use Rattle.db_load.specs.declared.rule.Form.{Form}
 use Rattle.db_load.specs.declared.rule.Form.TheVariants as form
 use Rattle.db_load.specs.declared.word.Word.{Word}
-use Rattle.db_load.specs.declared.choice.TheConstants as words
+use Rattle.db_load.specs.declared.word.Word.TheVariants as word
 use Rattle.db_load.specs.Parsed.{literal_of, quoted_of}
 use Rattle.expr_text.specs.Parsed.{parsed}
 use Rattle.db_load.specs.Words.{spelled}
@@ -26,7 +24,7 @@ are_digits is_digit most ds = nat_lt 0 (length ds) && (nat_le (length ds) most &
 
 -- their number, where it isn't too great
 abbrev pub numeral : ℕ → Bool → Text → Option ℕ
-numeral radix are_right ds = if are_right && nat_le (digits_value radix ds) GREATEST_NUMBER then Some (digits_value radix ds) else None
+numeral radix are_right ds = if are_right && nat_le (digits_value radix ds) 4294967295 then Some (digits_value radix ds) else None
 
 -- the digits behind `0x`
 abbrev pub behind_0x : Text → Option Text
@@ -43,7 +41,7 @@ number_of t = number_by t (behind_0x t)
 
 -- what hex digits are as bytes, where there are two a byte
 abbrev pub mask_by : Result (List ℕ) FromHexError → Option (List ℕ)
-mask_by (Ok bytes) = Some (take MOST_BYTES bytes)
+mask_by (Ok bytes) = Some (take 262144 bytes)
 mask_by (Err e) = None
 
 abbrev pub mask_in : Option Text → Option (List ℕ)
@@ -65,6 +63,7 @@ abbrev pub is_variable_name : Text → Bool
 is_variable_name [] = false
 is_variable_name (b ∷ name) = b == 0x24 && is_name name
 
+-- one of a few words
 abbrev pub is_choice : Text → List Word → Bool
 is_choice t [] = false
 is_choice t (w ∷ ws) = if bytes_eq t (spelled w) then true else is_choice t ws
@@ -101,14 +100,14 @@ has_form form.Number t = is_some (number_of t)
 has_form form.Expr t = is_some (parsed t)
 has_form form.Literal t = is_some (literal_of t)
 has_form form.Quoted t = is_some (quoted_of t)
-has_form form.Separator t = is_text t && nat_le (length t) MOST_SEPARATOR
+has_form form.Separator t = is_text t && nat_le (length t) 8
 has_form form.Mask t = is_some (mask_of t)
-has_form form.ValueType t = is_choice t words.VALUE_TYPES
-has_form form.VariableValidity t = is_choice t words.VARIABLE_VALIDITIES
-has_form form.ShowType t = is_choice t words.SHOW_TYPES
-has_form form.HeaderPart t = is_choice t words.HEADER_PARTS
-has_form form.FieldType t = is_choice t words.FIELD_TYPES
-has_form form.LoopType t = is_choice t words.LOOP_TYPES
-has_form form.LoopControl t = is_choice t words.LOOP_CONTROLS
-has_form form.UpdateAction t = is_choice t words.UPDATE_ACTIONS
-has_form form.EntryValidity t = is_choice t words.ENTRY_VALIDITIES
+has_form form.ValueType t = is_choice t (word.Num ∷ word.Buf ∷ word.Proto ∷ [])
+has_form form.VariableValidity t = is_choice t (word.Packet ∷ [])
+has_form form.ShowType t = is_choice t (word.Hex ∷ word.Dec ∷ word.Ascii ∷ [])
+has_form form.HeaderPart t = is_choice t (word.Num ∷ word.Timestamp ∷ word.Len ∷ [])
+has_form form.FieldType t = is_choice t (word.Fixed ∷ word.Bit ∷ word.Variable ∷ word.TokenEnded ∷ word.Line ∷ word.Padding ∷ [])
+has_form form.LoopType t = is_choice t (word.Size ∷ word.Count ∷ word.While ∷ [])
+has_form form.LoopControl t = is_choice t (word.Break ∷ word.Continue ∷ [])
+has_form form.UpdateAction t = is_choice t (word.Add ∷ [])
+has_form form.EntryValidity t = is_choice t (word.KeepForever ∷ word.KeepMaxTime ∷ word.UpdateOnHit ∷ word.AddOnHit ∷ [])

@@ -14,7 +14,6 @@ use Rattle.db_model.specs.declared.expression.Expr as expr
 use Rattle.db_model.specs.declared.expression.Expr.{Expr}
 use Rattle.db_model.specs.declared.expression.Literal.{Literal}
 use Rattle.db_model.specs.declared.expression.Literal.TheVariants as literal
-use Rattle.db_model.specs.declared.limits.TheConstants.{MOST_SEPARATOR}
 use Rattle.db_model.specs.declared.value.Ty.{Ty}
 use Rattle.db_model.specs.declared.value.Ty.TheVariants as ty
 use Rattle.db_model.specs.Forms.{is_text}
@@ -66,7 +65,7 @@ filled_by t = unwrap_or (text_by t) []
 
 abbrev pub separator_by : Option Text → Text
 separator_by None = []
-separator_by (Some t) = if is_text t && nat_le (length t) MOST_SEPARATOR then t else []
+separator_by (Some t) = if is_text t && nat_le (length t) 8 then t else []
 
 -- ---- numbers, masks and expressions
 

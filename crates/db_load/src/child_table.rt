@@ -55,29 +55,42 @@ const IN_FORMAT: [Child; 2] = [
     child!(Block, Kind::NamedBlock, 0, None),
 ];
 
-const IN_FIELDS: [Child; 9] = [
-    child!(Field, Kind::Field, 0, None),
-    child!(Block, Kind::Block(ListKind::Fields), 0, None),
-    child!(IncludeBlk, Kind::IncludeBlock, 0, None),
-    child!(Loop, Kind::Loop, 0, None),
-    child!(LoopCtrl, Kind::LoopCtrl(ListKind::Fields), 0, None),
-    child!(Switch, Kind::Switch(ListKind::Fields), 0, None),
-    child!(If, Kind::If(ListKind::Fields), 0, None),
-    child!(AssignVariable, Kind::Assign, 0, None),
-    child!(UpdateLookupTable, Kind::Update, 0, None),
-];
+/// A field list, inside a loop or in none.
+macro_rules! in_fields {
+    ($list:expr) => {
+        [
+            child!(Field, Kind::Field, 0, None),
+            child!(Block, Kind::Block($list), 0, None),
+            child!(IncludeBlk, Kind::IncludeBlock, 0, None),
+            child!(Loop, Kind::Loop, 0, None),
+            child!(LoopCtrl, Kind::LoopCtrl($list), 0, None),
+            child!(Switch, Kind::Switch($list), 0, None),
+            child!(If, Kind::If($list), 0, None),
+            child!(AssignVariable, Kind::Assign, 0, None),
+            child!(UpdateLookupTable, Kind::Update, 0, None),
+        ]
+    };
+}
 
-const IN_LOOPED: [Child; 9] = [
-    child!(Field, Kind::Field, 0, None),
-    child!(Block, Kind::Block(ListKind::Looped), 0, None),
-    child!(IncludeBlk, Kind::IncludeBlock, 0, None),
-    child!(Loop, Kind::Loop, 0, None),
-    child!(LoopCtrl, Kind::LoopCtrl(ListKind::Looped), 0, None),
-    child!(Switch, Kind::Switch(ListKind::Looped), 0, None),
-    child!(If, Kind::If(ListKind::Looped), 0, None),
-    child!(AssignVariable, Kind::Assign, 0, None),
-    child!(UpdateLookupTable, Kind::Update, 0, None),
-];
+/// A switch in a list of this kind, whose cases have lists of the same kind.
+macro_rules! in_switch {
+    ($list:expr) => {
+        [
+            child!(Case, Kind::Case($list), 0, None),
+            child!(Default, Kind::Branch($list), 0, Some(1)),
+        ]
+    };
+}
+
+/// A condition in a list of this kind.
+macro_rules! in_if {
+    ($list:expr) => {
+        [
+            child!(IfTrue, Kind::Branch($list), 1, Some(1)),
+            child!(IfFalse, Kind::Branch($list), 0, Some(1)),
+        ]
+    };
+}
 
 const IN_CODE: [Child; 4] = [
     child!(Switch, Kind::Switch(ListKind::Code), 0, None),
@@ -92,46 +105,6 @@ const IN_ENCAP: [Child; 3] = [
     child!(NextProto, Kind::NextProto, 0, None),
 ];
 
-const IN_FIELDS_SWITCH: [Child; 2] = [
-    child!(Case, Kind::Case(ListKind::Fields), 0, None),
-    child!(Default, Kind::Branch(ListKind::Fields), 0, Some(1)),
-];
-
-const IN_LOOPED_SWITCH: [Child; 2] = [
-    child!(Case, Kind::Case(ListKind::Looped), 0, None),
-    child!(Default, Kind::Branch(ListKind::Looped), 0, Some(1)),
-];
-
-const IN_CODE_SWITCH: [Child; 2] = [
-    child!(Case, Kind::Case(ListKind::Code), 0, None),
-    child!(Default, Kind::Branch(ListKind::Code), 0, Some(1)),
-];
-
-const IN_ENCAP_SWITCH: [Child; 2] = [
-    child!(Case, Kind::Case(ListKind::Encap), 0, None),
-    child!(Default, Kind::Branch(ListKind::Encap), 0, Some(1)),
-];
-
-const IN_FIELDS_IF: [Child; 2] = [
-    child!(IfTrue, Kind::Branch(ListKind::Fields), 1, Some(1)),
-    child!(IfFalse, Kind::Branch(ListKind::Fields), 0, Some(1)),
-];
-
-const IN_LOOPED_IF: [Child; 2] = [
-    child!(IfTrue, Kind::Branch(ListKind::Looped), 1, Some(1)),
-    child!(IfFalse, Kind::Branch(ListKind::Looped), 0, Some(1)),
-];
-
-const IN_CODE_IF: [Child; 2] = [
-    child!(IfTrue, Kind::Branch(ListKind::Code), 1, Some(1)),
-    child!(IfFalse, Kind::Branch(ListKind::Code), 0, Some(1)),
-];
-
-const IN_ENCAP_IF: [Child; 2] = [
-    child!(IfTrue, Kind::Branch(ListKind::Encap), 1, Some(1)),
-    child!(IfFalse, Kind::Branch(ListKind::Encap), 0, Some(1)),
-];
-
 const IN_UPDATE: [Child; 2] = [
     child!(Key, Kind::UpdateKey, 0, None),
     child!(Data, Kind::UpdateValue, 0, None),
@@ -143,8 +116,8 @@ fn in_list(kind: ListKind) -> &'static [Child]
     ensures { result.now ≡ Rules.in_list kind }
 {
     match kind {
-        ListKind::Fields => &IN_FIELDS,
-        ListKind::Looped => &IN_LOOPED,
+        ListKind::Fields => &in_fields!(ListKind::Fields),
+        ListKind::Looped => &in_fields!(ListKind::Looped),
         ListKind::Code => &IN_CODE,
         ListKind::Encap => &IN_ENCAP,
     }
@@ -155,10 +128,10 @@ fn in_switch(kind: ListKind) -> &'static [Child]
     ensures { result.now ≡ Rules.in_switch kind }
 {
     match kind {
-        ListKind::Fields => &IN_FIELDS_SWITCH,
-        ListKind::Looped => &IN_LOOPED_SWITCH,
-        ListKind::Code => &IN_CODE_SWITCH,
-        ListKind::Encap => &IN_ENCAP_SWITCH,
+        ListKind::Fields => &in_switch!(ListKind::Fields),
+        ListKind::Looped => &in_switch!(ListKind::Looped),
+        ListKind::Code => &in_switch!(ListKind::Code),
+        ListKind::Encap => &in_switch!(ListKind::Encap),
     }
 }
 
@@ -167,10 +140,10 @@ fn in_if(kind: ListKind) -> &'static [Child]
     ensures { result.now ≡ Rules.in_if kind }
 {
     match kind {
-        ListKind::Fields => &IN_FIELDS_IF,
-        ListKind::Looped => &IN_LOOPED_IF,
-        ListKind::Code => &IN_CODE_IF,
-        ListKind::Encap => &IN_ENCAP_IF,
+        ListKind::Fields => &in_if!(ListKind::Fields),
+        ListKind::Looped => &in_if!(ListKind::Looped),
+        ListKind::Code => &in_if!(ListKind::Code),
+        ListKind::Encap => &in_if!(ListKind::Encap),
     }
 }
 
@@ -186,15 +159,15 @@ pub fn children(kind: Kind) -> &'static [Child]
         Kind::SumTemplate => &IN_SUM_TEMPLATE,
         Kind::Protocol => &IN_PROTOCOL,
         Kind::ExecuteCode => &IN_EXECUTE_CODE,
-        Kind::CodeList => &IN_CODE,
+        Kind::CodeList => in_list(ListKind::Code),
         Kind::Format => &IN_FORMAT,
-        Kind::Fields | Kind::NamedBlock => &IN_FIELDS,
+        Kind::Fields | Kind::NamedBlock => in_list(ListKind::Fields),
         Kind::Block(list) | Kind::Case(list) | Kind::Branch(list) => in_list(list),
-        Kind::Loop => &IN_LOOPED,
+        Kind::Loop => in_list(ListKind::Looped),
         Kind::Switch(list) => in_switch(list),
         Kind::If(list) => in_if(list),
         Kind::Update => &IN_UPDATE,
-        Kind::Encapsulation => &IN_ENCAP,
+        Kind::Encapsulation => in_list(ListKind::Encap),
         Kind::Variable
         | Kind::TableKey
         | Kind::TableColumn

@@ -3,6 +3,8 @@ use Rattle.std.proofs.Common.{◌≡◌, ◌≢◌, ◌<◌, ◌≤◌, ◌+◌,
 use Rattle.std.proofs.lemmas.Bool.{eq-eqb, ne_eqb, cases_lt}
 use Rattle.std.proofs.lemmas.List.{length-append}
 use Rattle.std.proofs.Math.Seq.{take-append_seam, take-append-add, take-length}
+use Rattle.db_cause.specs.declared.cause.Cause.TheVariants as cause
+use Rattle.db_cause.specs.Codes
 use Rattle.db_text.specs.declared.mode.Mode.{Mode}
 use Rattle.db_text.specs.declared.mode.Mode.TheVariants as mode
 use Rattle.db_text.specs.declared.mode.Move.{Move}
@@ -77,7 +79,7 @@ mode_of (Some s) = s.mode
 
 module _ (bytes : List ℕ) where
   -- the text ends here
-  tells_end : (m : Mode) (n : Notes) (q : Parts) → taken bytes ≡ at m n q → (t : Bool) → is_whole m n ≡ t → Tells bytes (if t then Ok n.deep else Err (line_behind 1 bytes, 2))
+  tells_end : (m : Mode) (n : Notes) (q : Parts) → taken bytes ≡ at m n q → (t : Bool) → is_whole m n ≡ t → Tells bytes (if t then Ok n.deep else Err (line_behind 1 bytes, Codes.code cause.UnexpectedEnd))
   tells_end m n q h true w = whole m n.names n.seen n.deep w h
     where
       whole : (m : Mode) (names : Stack) (seen : Bool) (deep : Option ℕ) → is_whole m (notes names seen deep) ≡ true → taken bytes ≡ at m (notes names seen deep) q → Tells bytes (Ok deep)
@@ -97,14 +99,14 @@ module _ (bytes : List ℕ) where
     viable = subst Viable (sym (take-length bytes)) (alive bytes (state m n q) h);
     longest = λ other l v. l;
     line_is = ap (line_behind 1) (sym (take-length bytes));
-    code_is = ap (λ t. if t then 2 else 1) (sym (eq-eqb (length bytes) (length bytes) refl));
+    code_is = ap (λ t. Codes.code (if t then cause.UnexpectedEnd else cause.UnexpectedByte)) (sym (eq-eqb (length bytes) (length bytes) refl));
   }
     where
       whole_is : (m : Mode) (n : Notes) (q : Parts) (deep : Option ℕ) (q' : Parts) → at m n q ≡ at mode.Between (notes [] true deep) q' → is_whole m n ≡ true
       whole_is m n q deep q' h = ap (λ s. is_whole (mode_of s) (notes_of s)) h
 
   -- a byte is at fault
-  tells_fault : (front : List ℕ) (b : ℕ) (bs : List ℕ) (m : Mode) (n : Notes) (q : Parts) → bytes ≡ front ++ b ∷ bs → taken front ≡ at m n q → taken (front ++ b ∷ []) ≡ None → IsFaulty bytes (line_behind 1 front) 1
+  tells_fault : (front : List ℕ) (b : ℕ) (bs : List ℕ) (m : Mode) (n : Notes) (q : Parts) → bytes ≡ front ++ b ∷ bs → taken front ≡ at m n q → taken (front ++ b ∷ []) ≡ None → IsFaulty bytes (line_behind 1 front) (Codes.code cause.UnexpectedByte)
   tells_fault front b bs m n q e h r =
       let all : bytes ≡ (front ++ b ∷ []) ++ bs = e ∙ sym (append_assoc front (b ∷ []) bs) in
       let none : taken bytes ≡ None = ap taken all ∙ refused_on (front ++ b ∷ []) bs r in
@@ -119,7 +121,7 @@ module _ (bytes : List ℕ) where
         viable = subst Viable (sym cut) (alive front (state m n q) h);
         longest = λ other l v. shorter front b bs other all r v (cases_lt (length front) other);
         line_is = ap (line_behind 1) (sym cut);
-        code_is = ap (λ t. if t then 2 else 1) (sym (ne_eqb (length front) (length bytes) more));
+        code_is = ap (λ t. Codes.code (if t then cause.UnexpectedEnd else cause.UnexpectedByte)) (sym (ne_eqb (length front) (length bytes) more));
       }
     where
       shorter : (front : List ℕ) (b : ℕ) (bs : List ℕ) (other : ℕ) → bytes ≡ (front ++ b ∷ []) ++ bs → taken (front ++ b ∷ []) ≡ None → Viable (take other bytes) → (length front < other) ⊎ (other ≤ length front) → other ≤ length front
@@ -135,7 +137,7 @@ module _ (bytes : List ℕ) where
   unfolding outcome
   tells [] front m n q e h =
       let all : bytes ≡ front = e ∙ append-nil front in
-      subst (λ l. Tells bytes (if is_whole m n then Ok n.deep else Err (l, 2))) (ap (line_behind 1) all) (tells_end m n q (ap taken all ∙ h) (is_whole m n) refl)
+      subst (λ l. Tells bytes (if is_whole m n then Ok n.deep else Err (l, Codes.code cause.UnexpectedEnd))) (ap (line_behind 1) all) (tells_end m n q (ap taken all ∙ h) (is_whole m n) refl)
   tells (b ∷ bs) front m n q e h =
       next (decide m n (line_behind 1 front) b) refl (λ v d.
       subst (λ l. Tells bytes (outcome l v.mode (noted v.act n) bs)) (line_behind-append front (b ∷ []) 1)
@@ -193,7 +195,7 @@ same_fault bytes line code line' code' f g =
     let a = g.longest f.at f.within f.viable in
     let b = f.longest g.at g.within g.viable in
     let e : f.at ≡ g.at = omega (arith, a, b) in
-    (f.line_is ∙ ap (λ i. line_behind 1 (take i bytes)) e ∙ sym g.line_is, f.code_is ∙ ap (λ i. if i == length bytes then 2 else 1) e ∙ sym g.code_is)
+    (f.line_is ∙ ap (λ i. line_behind 1 (take i bytes)) e ∙ sym g.line_is, f.code_is ∙ ap (λ i. Codes.code (if i == length bytes then cause.UnexpectedEnd else cause.UnexpectedByte)) e ∙ sym g.code_is)
 
 pub one_refusal : (bytes : List ℕ) (line code line' code' : ℕ) → IsRefused bytes line code → IsRefused bytes line' code' → (line ≡ line') × (code ≡ code')
 one_refusal bytes line code line' code' (too_long long l c) (too_long long' l' c') = (l ∙ sym l', c ∙ sym c')
@@ -212,12 +214,12 @@ one_refusal bytes line code line' code' (too_deep_within w f c) (too_deep_within
 
 answer_within : (bytes : List ℕ) → length bytes ≤ 1048576 → (a : Answer) → Tells bytes a → ((n : Node) × IsText bytes n) ⊎ ((line : ℕ) × (code : ℕ) × IsRefused bytes line code)
 answer_within bytes w (Ok None) t = inl (t.0, record { within = w; spelled = t.1; deep = t.2 })
-answer_within bytes w (Ok (Some line)) t = inr (line, 4, too_deep_within w (record { element = t.0; spelled = t.1; deep = t.2 }) refl)
+answer_within bytes w (Ok (Some line)) t = inr (line, Codes.code cause.TextTooDeep, too_deep_within w (record { element = t.0; spelled = t.1; deep = t.2 }) refl)
 answer_within bytes w (Err f) t = inr (f.0, f.1, faulty w t)
 
 pub has_answer : (bytes : List ℕ) → ((n : Node) × IsText bytes n) ⊎ ((line : ℕ) × (code : ℕ) × IsRefused bytes line code)
 has_answer bytes = by_length (cases_lt 1048576 (length bytes))
   where
     by_length : (1048576 < length bytes) ⊎ (length bytes ≤ 1048576) → ((n : Node) × IsText bytes n) ⊎ ((line : ℕ) × (code : ℕ) × IsRefused bytes line code)
-    by_length (inl l) = inr (1, 3, too_long l refl refl)
+    by_length (inl l) = inr (1, Codes.code cause.TextTooLong, too_long l refl refl)
     by_length (inr w) = answer_within bytes w (text_outcome bytes) (told bytes)

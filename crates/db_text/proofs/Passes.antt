@@ -1,5 +1,7 @@
 -- The two passes over a text, byte by byte.
 use Rattle.std.proofs.Common.{◌≡◌, ◌≤◌, ℕ, List, [], ◌∷◌, length, Option, Some, None, Result, Ok, Err, refl, sym, ap, subst, ◌∙◌, arith}
+use Rattle.db_cause.specs.declared.cause.Cause.TheVariants as cause
+use Rattle.db_cause.specs.Codes
 use Rattle.db_text.specs.declared.fail.TextFail.{TextFail}
 use Rattle.db_text.specs.declared.fail.TextFail.TheVariants as fail
 use Rattle.db_text.specs.declared.mode.Mode.{Mode}
@@ -52,7 +54,7 @@ module _ (bytes : List ℕ) (within : length bytes ≤ 1048576) where
   fault_by (fail.Fault line code) h = faulty within (subst (Tells bytes) h (told bytes))
   fault_by fail.NoMemory h = tt
 
-  pub deep_by : (line : ℕ) (o : Option ℕ) → text_outcome bytes ≡ Ok o → o ≡ Some line → IsRefused bytes line 4
+  pub deep_by : (line : ℕ) (o : Option ℕ) → text_outcome bytes ≡ Ok o → o ≡ Some line → IsRefused bytes line (Codes.code cause.TextTooDeep)
   deep_by line o h e =
       let t : Tells bytes (Ok (Some line)) = subst (Tells bytes) (h ∙ ap (λ x. Ok x) e) (told bytes) in
       too_deep_within within (record { element = t.0; spelled = t.1; deep = t.2 }) refl

@@ -1,5 +1,7 @@
 -- Texts written out, and what the grammar makes of them.
-use Rattle.std.specs.Prelude.{[], ◌∷◌, ◌++◌, codes}
+use Rattle.std.specs.Prelude.{ℕ, List, [], ◌∷◌, ◌++◌, codes}
+use Rattle.db_cause.specs.declared.cause.Cause.TheVariants as cause
+use Rattle.db_cause.specs.Codes.{code}
 use Rattle.db_text.specs.Refusal.{IsText, IsRefused}
 use Rattle.db_text.specs.Tree.{attribute_of, element_of}
 
@@ -25,20 +27,28 @@ abbrev pub Unsaid : Type 0
 Unsaid =
     IsText (0xEF ∷ 0xBB ∷ 0xBF ∷ codes "<?xml version='1.0'?><!-- a - b ---><a><!----></a> <!-- -->") (element_of (codes "a") [] [] 1)
 
+-- the text ends early on a line
+abbrev pub IsEarly : List ℕ → ℕ → Type 0
+IsEarly bytes line = IsRefused bytes line (code cause.UnexpectedEnd)
+
 -- a text that ends early is refused at its end
 abbrev pub Early : Type 0
 Early =
-    IsRefused [] 1 2
-    × IsRefused (codes "<a>") 1 2
-    × IsRefused (codes "<a" ++ (0x0A ∷ []) ++ codes "b='&am") 2 2
-    × IsRefused (codes "<!-- ") 1 2
+    IsEarly [] 1
+    × IsEarly (codes "<a>") 1
+    × IsEarly (codes "<a" ++ (0x0A ∷ []) ++ codes "b='&am") 2
+    × IsEarly (codes "<!-- ") 1
+
+-- on a line stands a byte with which no text goes on
+abbrev pub IsStuck : List ℕ → ℕ → Type 0
+IsStuck bytes line = IsRefused bytes line (code cause.UnexpectedByte)
 
 -- a byte with which no text goes on is the place of the fault
 abbrev pub Stuck : Type 0
 Stuck =
-    IsRefused (codes "<a></b>") 1 1
-    × IsRefused (codes "<a/>" ++ (0x0A ∷ []) ++ codes "<b/>") 2 1
-    × IsRefused (codes "<a b='1'c='2'/>") 1 1
-    × IsRefused (codes "<a b='&amp'/>") 1 1
-    × IsRefused (codes "<!-- -- --><a/>") 1 1
-    × IsRefused (codes " <?xml?><a/>") 1 1
+    IsStuck (codes "<a></b>") 1
+    × IsStuck (codes "<a/>" ++ (0x0A ∷ []) ++ codes "<b/>") 2
+    × IsStuck (codes "<a b='1'c='2'/>") 1
+    × IsStuck (codes "<a b='&amp'/>") 1
+    × IsStuck (codes "<!-- -- --><a/>") 1
+    × IsStuck (codes " <?xml?><a/>") 1

@@ -1,5 +1,7 @@
 -- What the machine makes of a text. No public clause names it.
 use Rattle.std.specs.Prelude.{◌≡◌, ℕ, List, [], ◌∷◌, if◌then◌else◌, Option, Some, None, Result, Ok, Err}
+use Rattle.db_cause.specs.declared.cause.Cause.TheVariants as cause
+use Rattle.db_cause.specs.Codes
 use Rattle.db_text.specs.declared.fail.TextFail.{TextFail}
 use Rattle.db_text.specs.declared.fail.TextFail.TheVariants as fail
 use Rattle.db_text.specs.declared.mode.Mode.{Mode}
@@ -17,11 +19,11 @@ Answer = Result (Option ℕ) (ℕ × ℕ)
 
 -- behind a byte on a line
 abbrev pub after : ℕ → Notes → (Mode → Notes → Answer) → Option Move → Answer
-after line n next None = Err (line, 1)
+after line n next None = Err (line, Codes.code cause.UnexpectedByte)
 after line n next (Some v) = next v.mode (noted v.act n)
 
 abbrev pub at_end : ℕ → Mode → Notes → Answer
-at_end line m n = if is_whole m n then Ok n.deep else Err (line, 2)
+at_end line m n = if is_whole m n then Ok n.deep else Err (line, Codes.code cause.UnexpectedEnd)
 
 -- of bytes that begin on a line
 unfoldable pub outcome : ℕ → Mode → Notes → List ℕ → Answer

@@ -6,8 +6,7 @@ use thiserror::Error;
 /// Why a text gave no elements.
 #[derive(Debug, Drop, Error)]
 pub enum TextFail {
-    /// The first fault: its line, from 1, and its code. 1: a byte with which no text goes on. 2: the text ends
-    /// early. 3: the text is too long. 4: an element stands too deep.
+    /// The first fault: its line, from 1, and the code of its cause (`Cause`), one of those of a text.
     #[error("fault {code} at line {line}")]
     Fault { line: u32, code: u8 },
     #[error("out of memory")]

@@ -7,6 +7,7 @@ use crate::fail::TextFail;
 use crate::limits::MOST_TEXT_BYTES;
 use crate::node::Node;
 use crate::scan::scan;
+use db_cause::Cause;
 use std::alloc::Global;
 
 /// The elements of a text in which no element stands too deep.
@@ -28,11 +29,17 @@ pub fn read_elements(alloc: Global, text: &[u8]) -> Result<Node, TextFail>
     ensures { Answers text.now result }
 {
     if text.len() > MOST_TEXT_BYTES {
-        return Err(TextFail::Fault { line: 1, code: 3 });
+        return Err(TextFail::Fault {
+            line: 1,
+            code: Cause::TextTooLong.code(),
+        });
     }
     match scan(alloc, text) {
         Err(fail) => Err(fail),
-        Ok(Some(line)) => Err(TextFail::Fault { line, code: 4 }),
+        Ok(Some(line)) => Err(TextFail::Fault {
+            line,
+            code: Cause::TextTooDeep.code(),
+        }),
         Ok(None) => elements(alloc, text),
     }
 }

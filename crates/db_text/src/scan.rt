@@ -7,6 +7,7 @@ use crate::decide::decide;
 use crate::fail::TextFail;
 use crate::mode::Mode;
 use crate::notes::Notes;
+use db_cause::Cause;
 use std::alloc::Global;
 
 /// The line behind a byte on a line.
@@ -23,7 +24,10 @@ fn advance(mode: Mode, notes: &mut Notes, line: u32, byte: u8) -> Result<Mode, T
     ensures { Outcome.Advanced line mode notes.old byte result notes.new }
 {
     match decide(mode, notes, line, byte) {
-        None => Err(TextFail::Fault { line, code: 1 }),
+        None => Err(TextFail::Fault {
+            line,
+            code: Cause::UnexpectedByte.code(),
+        }),
         Some(next) => {
             notes.note(next.act)?;
             Ok(next.mode)
@@ -47,7 +51,10 @@ fn finish(mode: Mode, notes: &Notes, line: u32) -> Result<Option<u32>, TextFail>
     if is_between(mode) && notes.names.is_empty() && notes.seen {
         Ok(notes.deep)
     } else {
-        Err(TextFail::Fault { line, code: 2 })
+        Err(TextFail::Fault {
+            line,
+            code: Cause::UnexpectedEnd.code(),
+        })
     }
 }
 

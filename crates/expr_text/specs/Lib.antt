@@ -3,6 +3,7 @@ pub mod Grammar
 pub mod Laws
 pub mod Lexing
 pub mod Machine
+pub mod Numbers
 pub mod Outcome
 pub mod Parsed
 pub mod Printing

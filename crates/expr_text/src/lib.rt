@@ -28,6 +28,7 @@ mod word;
 pub use fail::ExprFail;
 pub use lexeme::{Lexeme, Scanned};
 pub use limits::MOST_EXPRESSION_BYTES;
+pub use number::number_of;
 pub use parse::parse_expr;
 pub use print::print_expr;
 pub use token::{BinaryOp, Call, Token};

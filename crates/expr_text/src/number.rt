@@ -1,6 +1,7 @@
 ghost use Rattle.std.specs.Prelude.{◌≡◌, ◌<◌, ◌≤◌, ◌+◌, length};
 ghost use Rattle.std.specs.Char.{digit_value, is_ascii_digit};
 ghost use Rattle.expr_text.specs.Lexing;
+ghost use Rattle.expr_text.specs.Numbers;
 
 use crate::lexeme::{Lexeme, Scanned};
 use crate::runs::{digits_run, hex_run};
@@ -90,5 +91,29 @@ pub fn number(bytes: &[u8]) -> Scanned
     Scanned {
         lexeme: decimal(digits),
         size: digits.len(),
+    }
+}
+
+/// The number that a lexeme is, where it has so many bytes.
+fn value_of_all(size: usize, scanned: &Scanned) -> Option<u32>
+    ensures { result ≡ Numbers.value_of_all size scanned.now }
+{
+    if scanned.size != size {
+        return None;
+    }
+    match &scanned.lexeme {
+        Lexeme::Token(Token::Number(n)) => Some(*n),
+        _ => None,
+    }
+}
+
+/// The number that a whole text is: one token of an expression, in decimal or in hex behind `0x`.
+#[tactic(auto, unfolding(crate::specs::Numbers::number_of))]
+pub fn number_of(text: &[u8]) -> Option<u32>
+    ensures { result ≡ Numbers.number_of text.now }
+{
+    match text.split_first() {
+        Some((first, _)) if first.is_ascii_digit() => value_of_all(text.len(), &number(text)),
+        _ => None,
     }
 }

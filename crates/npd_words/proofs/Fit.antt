@@ -4,6 +4,8 @@ use Rattle.std.specs.Prelude.{bytes_eq}
 use Rattle.std.specs.List.{list_all}
 use Rattle.std.proofs.lemmas.Bool.{and_parts}
 use Rattle.db_model.specs.Names.{Text}
+use Rattle.npd_words.specs.declared.cause.Cause.{Cause}
+use Rattle.npd_words.specs.declared.cause.Cause.TheVariants as cause
 use Rattle.npd_words.specs.declared.given.Given.{Given}
 use Rattle.npd_words.specs.declared.row.OptionRow.{OptionRow}
 use Rattle.npd_words.specs.Numbers.{fits}
@@ -35,8 +37,8 @@ module _ (test : OptionRow → Bool) where
       let parts = and_parts (test x) (list_all test xs) all in
       row_step (bytes_eq name (option_text x.option)) x r (row_of xs name) parts.0 (row_passes xs name r parts.1) e
 
-  abbrev with_value : OptionRow → Text → Bool → Bool → Result (OptionRow × Text) ℕ
-  with_value x v is_empty is_fit = if is_empty then Err 6 else (if is_fit then Ok (x, v) else Err 7)
+  abbrev with_value : OptionRow → Text → Bool → Bool → Result (OptionRow × Text) Cause
+  with_value x v is_empty is_fit = if is_empty then Err cause.EmptyValue else (if is_fit then Ok (x, v) else Err cause.NoNumber)
 
   value_step : (x : OptionRow) (v : Text) (r : OptionRow × Text) (is_empty is_fit : Bool) → test x ≡ true → fits x.form v ≡ is_fit
       → with_value x v is_empty is_fit ≡ Ok r → Fits r
@@ -45,7 +47,7 @@ module _ (test : OptionRow → Bool) where
   value_step x v r false false t f e = absurd (cc)
 
   given_step : (x : OptionRow) (value : Option Text) (r : OptionRow × Text) (is_second : Bool) → test x ≡ true
-      → (if is_second then Err 4 else judged_value x value) ≡ Ok r → Fits r
+      → (if is_second then Err cause.SecondTime else judged_value x value) ≡ Ok r → Fits r
   given_step x value r true t e = absurd (cc)
   given_step x None r false t e = absurd (cc)
   given_step x (Some v) r false t e = value_step x v r (length v == 0) (fits x.form v) t refl e
@@ -56,11 +58,11 @@ module _ (test : OptionRow → Bool) where
   by_row (Some x) given name value r t e = given_step x value r (is_given given name) (t x refl) e
 
   module _ (rows : List OptionRow) (all : list_all test rows ≡ true) where
-    option_step : (i : ℕ) (os : List Occurrence) (given out : List Given) (j : Result (OptionRow × Text) ℕ)
+    option_step : (i : ℕ) (os : List Occurrence) (given out : List Given) (j : Result (OptionRow × Text) Cause)
         → ((r : OptionRow × Text) → j ≡ Ok r → Fits r)
         → ((more : List Given) → AllFit more → options rows os more ≡ Ok out → AllFit out)
         → AllFit given → taken_in i j (options rows os) given ≡ Ok out → AllFit out
-    option_step i os given out (Err code) fit later h e = absurd (cc)
+    option_step i os given out (Err c) fit later h e = absurd (cc)
     option_step i os given out (Ok r) fit later h e =
         let one : Given = record { index = i; row = r.0; value = r.1 } in
         later (given ++ one ∷ []) (fit_more given one h (fit r refl)) e

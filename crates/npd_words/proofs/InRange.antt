@@ -3,6 +3,7 @@ use Rattle.std.proofs.Common.{◌≡◌, ℕ, ◌≤◌, Bool, true, false, not,
 use Rattle.std.specs.Prelude.{bytes_eq, nat_eq, is_some, unwrap_or}
 use Rattle.std.proofs.lemmas.Bool.Decides.{nat_tests}
 use Rattle.db_model.specs.Names.{Text}
+use Rattle.npd_words.specs.declared.cause.Cause.TheVariants as cause
 use Rattle.npd_words.specs.declared.command.Command.{Command}
 use Rattle.npd_words.specs.declared.command.Command.TheVariants as command
 use Rattle.npd_words.specs.declared.fail.WordsFail.{WordsFail}
@@ -14,11 +15,11 @@ use Rattle.npd_words.specs.declared.row.Form.{Form}
 use Rattle.npd_words.specs.declared.row.Form.TheVariants as form
 use Rattle.npd_words.specs.declared.row.OptionRow.{OptionRow}
 use Rattle.std.specs.Prelude.{IfOk}
-use Rattle.npd_words.specs.Asked.{asked, asked_of, asked_by, planned_by, fault}
+use Rattle.npd_words.specs.Asked.{asked, asked_of, asked_by, planned_by}
 use Rattle.npd_words.specs.Names.{lacks, same_name}
 use Rattle.npd_words.specs.Numbers.{number_of, is_within, fits}
 use Rattle.npd_words.specs.Occurrences.{Occurrence, occurrences}
-use Rattle.npd_words.specs.Options.{Fault, options, value_of, is_given}
+use Rattle.npd_words.specs.Options.{Fault, caused, options, value_of, is_given}
 use Rattle.npd_words.specs.Plans.{plan_of, number, number_by, default_of}
 use Rattle.npd_words.specs.Ranges.{IsInRange}
 use Rattle.npd_words.specs.Rows.{command_of, rows}
@@ -94,7 +95,7 @@ plan_lies command.Gen os given read lacked =
 
 module _ (p : Plan) where
   by_names : (c : Command) (count : ℕ) (given : List Given) (s : Option ℕ) (b : Bool) → (b ≡ false → IsInRange (plan_of c given))
-      → (if b then Err (fault count 8) else planned_by c given s) ≡ Ok p → IsInRange p
+      → (if b then Err (caused count cause.MissingOption) else planned_by c given s) ≡ Ok p → IsInRange p
   by_names c count given s true lies e = absurd (cc)
   by_names c count given (Some i) false lies e = absurd (cc)
   by_names c count given None false lies e = let same : plan_of c given ≡ p = cc in subst IsInRange same (lies refl)

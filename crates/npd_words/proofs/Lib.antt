@@ -1,3 +1,4 @@
 mod Digits
 mod Fit
 mod InRange
+pub mod Told

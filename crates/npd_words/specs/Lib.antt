@@ -1,4 +1,5 @@
 pub mod Asked
+pub mod Codes
 pub mod Names
 pub mod Numbers
 pub mod Occurrences

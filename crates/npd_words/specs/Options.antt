@@ -1,9 +1,12 @@
 -- The options that words give, read from the left, or the first fault.
 use Rattle.std.specs.Prelude.{ℕ, Bool, true, false, ◌==◌, if◌then◌else◌, List, [], ◌∷◌, ◌++◌, length, bytes_eq, Option, Some, None, Result, Ok, Err}
 use Rattle.db_model.specs.Names.{Text}
+use Rattle.npd_words.specs.declared.cause.Cause.{Cause}
+use Rattle.npd_words.specs.declared.cause.Cause.TheVariants as cause
 use Rattle.npd_words.specs.declared.given.Given.{Given}
 use Rattle.npd_words.specs.declared.option_name.OptionName.{OptionName}
 use Rattle.npd_words.specs.declared.row.OptionRow.{OptionRow}
+use Rattle.npd_words.specs.Codes
 use Rattle.npd_words.specs.Numbers.{fits}
 use Rattle.npd_words.specs.Occurrences.{Occurrence}
 use Rattle.npd_words.specs.Spelled.{option_text}
@@ -12,6 +15,10 @@ use Rattle.npd_words.specs.Spelled.{option_text}
 pub record Fault : Type 0 where
   pub index : ℕ
   pub code : ℕ
+
+-- that of a cause
+abbrev pub caused : ℕ → Cause → Fault
+caused index c = record { index = index; code = Codes.code c }
 
 -- ---- what is known and what was given
 
@@ -30,25 +37,25 @@ abbrev pub value_of : List Given → OptionName → Option Text
 value_of [] o = None
 value_of (g ∷ gs) o = if bytes_eq (option_text o) (option_text g.row.option) then Some g.value else value_of gs o
 
--- ---- one option: its row and its value, or the code of its fault
+-- ---- one option: its row and its value, or the cause of its fault
 
--- 5: no value follows. 6: it is empty. 7: it isn't a number in range
-abbrev pub judged_value : OptionRow → Option Text → Result (OptionRow × Text) ℕ
-judged_value r None = Err 5
-judged_value r (Some v) = if length v == 0 then Err 6 else (if fits r.form v then Ok (r, v) else Err 7)
+-- the value has to follow, not to be empty, and to fit the row
+abbrev pub judged_value : OptionRow → Option Text → Result (OptionRow × Text) Cause
+judged_value r None = Err cause.NoValue
+judged_value r (Some v) = if length v == 0 then Err cause.EmptyValue else (if fits r.form v then Ok (r, v) else Err cause.NoNumber)
 
--- 3: it isn't an option of the command. 4: it was given before
-abbrev pub judged_by : Option OptionRow → List Given → Text → Option Text → Result (OptionRow × Text) ℕ
-judged_by None given name value = Err 3
-judged_by (Some r) given name value = if is_given given name then Err 4 else judged_value r value
+-- the option has to be one of the command's, and may not be given before
+abbrev pub judged_by : Option OptionRow → List Given → Text → Option Text → Result (OptionRow × Text) Cause
+judged_by None given name value = Err cause.UnknownOption
+judged_by (Some r) given name value = if is_given given name then Err cause.SecondTime else judged_value r value
 
-abbrev pub judged : List OptionRow → List Given → Text → Option Text → Result (OptionRow × Text) ℕ
+abbrev pub judged : List OptionRow → List Given → Text → Option Text → Result (OptionRow × Text) Cause
 judged rows given name value = judged_by (row_of rows name) given name value
 
 -- ---- all options
 
-abbrev pub taken_in : ℕ → Result (OptionRow × Text) ℕ → (List Given → Result (List Given) Fault) → List Given → Result (List Given) Fault
-taken_in i (Err code) more given = Err (record { index = i; code = code })
+abbrev pub taken_in : ℕ → Result (OptionRow × Text) Cause → (List Given → Result (List Given) Fault) → List Given → Result (List Given) Fault
+taken_in i (Err c) more given = Err (caused i c)
 taken_in i (Ok r) more given = more (given ++ record { index = i; row = r.0; value = r.1 } ∷ [])
 
 -- each option is judged by those before it

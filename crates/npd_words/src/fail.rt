@@ -1,5 +1,8 @@
 ghost use Rattle.std.specs.Prelude.{◌≡◌};
+ghost use Rattle.npd_words.specs.Codes.{code};
+ghost use Rattle.npd_words.specs.declared.fail.WordsFail.TheVariants as fail;
 
+use crate::Cause;
 use db_model::NoMemory;
 use std::alloc::{AllocError, AllocFailed};
 use thiserror::Error;
@@ -7,14 +10,21 @@ use thiserror::Error;
 /// Why words ask for no plan.
 #[derive(Debug, Drop, Error)]
 pub enum WordsFail {
-    /// The first fault, by the index of its word, from 0. 1: there is no word. 2: the command is unknown. 3: a word
-    /// isn't an option of the command. 4: an option comes for the second time. 5: no value follows. 6: the value is
-    /// empty. 7: it isn't a number in range. 8: a required option is missing; the index is the number of words.
-    /// 9: two of the files have one name; the index is that of the second one's option.
+    /// The first fault: the index of its word, from 0, and the code of its cause (`Cause`).
     #[error("fault {code} at word {index}")]
     Fault { index: u32, code: u8 },
     #[error("out of memory")]
     NoMemory,
+}
+
+/// The fault of a cause at the word of an index.
+pub fn fault(index: u32, cause: Cause) -> WordsFail
+    ensures { result ≡ fail.Fault index (code cause) }
+{
+    WordsFail::Fault {
+        index,
+        code: cause.code(),
+    }
 }
 
 impl From<NoMemory> for WordsFail {

@@ -5,7 +5,7 @@ ghost use Rattle.std.specs.Option.{option_copied};
 ghost use Rattle.npd_words.specs.Options;
 
 use crate::number::fits;
-use crate::{OptionName, OptionRow};
+use crate::{Cause, OptionName, OptionRow};
 use db_model::Word;
 
 /// An option that was given: the index of its word, its row and its value.
@@ -15,16 +15,6 @@ pub struct Given {
     pub row: OptionRow,
     pub value: Word,
 }
-
-pub const UNKNOWN_OPTION: u8 = 3;
-
-pub const SECOND_TIME: u8 = 4;
-
-pub const NO_VALUE: u8 = 5;
-
-pub const EMPTY_VALUE: u8 = 6;
-
-pub const NO_NUMBER: u8 = 7;
 
 /// The row of the option that is written so.
 fn row_of(rows: &[OptionRow], name: &str) -> Option<OptionRow>
@@ -62,40 +52,40 @@ pub fn value_of(given: &[Given], option: OptionName) -> Option<&str>
     None
 }
 
-/// The value that an option is given, or the code of its fault.
-fn judged_value(row: OptionRow, value: Option<&str>) -> Result<(OptionRow, &str), u8>
+/// The value that an option is given, or the cause of its fault.
+fn judged_value(row: OptionRow, value: Option<&str>) -> Result<(OptionRow, &str), Cause>
     ensures row { IfOk result (λ r. Options.judged_value row (option_copied value.entry) ≡ Ok (r.0, r.1.now)) }
-    ensures code { IfErr result (λ code. Options.judged_value row (option_copied value.entry) ≡ Err code) }
+    ensures cause { IfErr result (λ c. Options.judged_value row (option_copied value.entry) ≡ Err c) }
 {
     match value {
-        None => Err(NO_VALUE),
+        None => Err(Cause::NoValue),
         Some(text) => {
             if text.is_empty() {
-                Err(EMPTY_VALUE)
+                Err(Cause::EmptyValue)
             } else if fits(row.form, text) {
                 Ok((row, text))
             } else {
-                Err(NO_NUMBER)
+                Err(Cause::NoNumber)
             }
         }
     }
 }
 
-/// The row and the value of an option that is written so behind those that were given, or the code of its fault.
+/// The row and the value of an option that is written so behind those that were given, or the cause of its fault.
 pub fn judged<'a>(
     rows: &[OptionRow],
     given: &[Given],
     name: &str,
     value: Option<&'a str>,
-) -> Result<(OptionRow, &'a str), u8>
+) -> Result<(OptionRow, &'a str), Cause>
     ensures row { IfOk result (λ r. Options.judged rows.now given.now name.now (option_copied value.entry) ≡ Ok (r.0, r.1.now)) }
-    ensures code { IfErr result (λ code. Options.judged rows.now given.now name.now (option_copied value.entry) ≡ Err code) }
+    ensures cause { IfErr result (λ c. Options.judged rows.now given.now name.now (option_copied value.entry) ≡ Err c) }
 {
     match row_of(rows, name) {
-        None => Err(UNKNOWN_OPTION),
+        None => Err(Cause::UnknownOption),
         Some(row) => {
             if is_given(given, name) {
-                Err(SECOND_TIME)
+                Err(Cause::SecondTime)
             } else {
                 judged_value(row, value)
             }

@@ -3,9 +3,11 @@
 //! with ranges and defaults, is one table (`COMMANDS`, `rows`).
 #![tactic(auto)]
 
+mod cause;
 mod command;
 mod fail;
 mod given;
+pub mod laws;
 mod names;
 mod number;
 mod occurrence;
@@ -16,6 +18,7 @@ mod read;
 mod row;
 mod table;
 
+pub use cause::Cause;
 pub use command::{COMMANDS, Command};
 pub use fail::WordsFail;
 pub use option_name::OptionName;

@@ -5,6 +5,7 @@ ghost use Rattle.npd_words.specs.Asked.{IfFault};
 ghost use Rattle.npd_words.specs.Occurrences.{occurrences};
 ghost use Rattle.npd_words.specs.Options.{options};
 
+use crate::fail::fault;
 use crate::given::{Given, judged};
 use crate::occurrence::read_occurrence;
 use crate::{OptionRow, WordsFail};
@@ -35,7 +36,7 @@ fn read_option(
 {
     let found = read_occurrence(word, behind);
     match judged(rows, given.as_slice(), found.name, found.value) {
-        Err(code) => Err(WordsFail::Fault { index, code }),
+        Err(cause) => Err(fault(index, cause)),
         Ok((row, text)) => {
             let value = Word::copy_of(alloc, text)?;
             given.push(Given { index, row, value })?;

@@ -1,4 +1,5 @@
 use Rattle.std.proofs.Common.{◌≡◌, drop}
+use Rattle.db_cause.specs.declared.cause.Cause.TheVariants as cause
 use Rattle.db_model.specs.BlockFaults.{protocol_45, protocol_46}
 use Rattle.db_model.specs.LeastFault.{earlier}
 use Rattle.db_model.specs.Lines.{over}
@@ -7,6 +8,6 @@ use Rattle.db_check.proofs.nested.of_each.Given as goal
 
 abbrev pub invariant-loop-number : goal.invariant-loop-number
 invariant-loop-number l = record {
-  cycles : earlier l.cycles (first 45 (over protocol_45 (drop l.number l.protocols))) ≡ first 45 (over protocol_45 l.protocols);
-  depths : earlier l.depths (first 46 (over protocol_46 (drop l.number l.protocols))) ≡ first 46 (over protocol_46 l.protocols);
+  cycles : earlier l.cycles (first cause.IncludesItself (over protocol_45 (drop l.number l.protocols))) ≡ first cause.IncludesItself (over protocol_45 l.protocols);
+  depths : earlier l.depths (first cause.NestedTooDeep (over protocol_46 (drop l.number l.protocols))) ≡ first cause.NestedTooDeep (over protocol_46 l.protocols);
 }

@@ -6,7 +6,7 @@ use Rattle.db_model.specs.Names.{table_at}
 use Rattle.db_model.specs.TypeFaults.{column_wants}
 use Rattle.db_model.specs.Typing.{columns_in}
 use Rattle.db_check.specs.First.{first}
-use Rattle.db_check.specs.Own.{code, key_lines, value_lines}
+use Rattle.db_check.specs.Own.{cause_of, key_lines, value_lines}
 use Rattle.db_check.proofs.FirstFault.{first_append}
 use Rattle.db_check.proofs.own.of_parts.Goals as goal
 
@@ -15,7 +15,7 @@ returns c =
     let db = c.args.around.now.scope.database.now in
     let fields = c.args.around.now.scope.fields.now in
     let blocks = block_names c.args.around.now.protocol.now in
-    let k = code c.args.kind in
+    let k = cause_of c.args.kind in
     let keys = key_lines db fields blocks c.args.kind in
     let values = value_lines db fields blocks c.args.kind in
     let columns : c.columns_of-columns.result.now ≡ columns_in (slice_get db.tables (table_at db c.args.table.now)) =

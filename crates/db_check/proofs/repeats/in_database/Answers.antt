@@ -1,4 +1,5 @@
 use Rattle.std.proofs.Common.{◌∙◌, ap, sym, map, [], ◌∷◌}
+use Rattle.db_cause.specs.declared.cause.Cause.TheVariants as cause
 use Rattle.db_model.specs.declared.database.Protocol.{Protocol}
 use Rattle.db_model.specs.declared.database.ShowTemplate.{ShowTemplate}
 use Rattle.db_model.specs.declared.database.SumTemplate.{SumTemplate}
@@ -14,13 +15,13 @@ use Rattle.db_check.proofs.repeats.in_database.Goals as goal
 
 pub returns : goal.returns
 returns c =
-    let protocols = c.in_ok-protocols.ensures ∙ ap (λ l. first 40 (repeated (payload_name ∷ []) (map (λ (d : Protocol). (d.name, d.line)) l))) c.as_slice.ensures in
-    let variables = c.in_ok-variables.ensures ∙ ap (λ l. first 40 (repeated special_names (map (λ (d : VarDecl). (d.name, d.line)) l))) c.as_slice-2.ensures in
-    let tables = c.in_ok-tables.ensures ∙ ap (λ l. first 40 (repeated [] (map (λ (d : TableDecl). (d.name, d.line)) l))) c.as_slice-3.ensures in
-    let columns = c.in_ok-columns.ensures ∙ ap (λ l. first 40 (over repeated_in_table l)) c.as_slice-4.ensures in
-    let shows = c.in_ok-shows.ensures ∙ ap (λ l. first 40 (repeated [] (map (λ (d : ShowTemplate). (d.name, d.line)) l))) c.as_slice-5.ensures in
-    let sums = c.in_ok-sums.ensures ∙ ap (λ l. first 40 (repeated [] (map (λ (d : SumTemplate). (d.name, d.line)) l))) c.as_slice-6.ensures in
-    let blocks = c.in_ok-blocks.ensures ∙ ap (λ l. first 40 (over repeated_blocks l)) c.as_slice-7.ensures in
+    let protocols = c.in_ok-protocols.ensures ∙ ap (λ l. first cause.DeclaredAgain (repeated (payload_name ∷ []) (map (λ (d : Protocol). (d.name, d.line)) l))) c.as_slice.ensures in
+    let variables = c.in_ok-variables.ensures ∙ ap (λ l. first cause.DeclaredAgain (repeated special_names (map (λ (d : VarDecl). (d.name, d.line)) l))) c.as_slice-2.ensures in
+    let tables = c.in_ok-tables.ensures ∙ ap (λ l. first cause.DeclaredAgain (repeated [] (map (λ (d : TableDecl). (d.name, d.line)) l))) c.as_slice-3.ensures in
+    let columns = c.in_ok-columns.ensures ∙ ap (λ l. first cause.DeclaredAgain (over repeated_in_table l)) c.as_slice-4.ensures in
+    let shows = c.in_ok-shows.ensures ∙ ap (λ l. first cause.DeclaredAgain (repeated [] (map (λ (d : ShowTemplate). (d.name, d.line)) l))) c.as_slice-5.ensures in
+    let sums = c.in_ok-sums.ensures ∙ ap (λ l. first cause.DeclaredAgain (repeated [] (map (λ (d : SumTemplate). (d.name, d.line)) l))) c.as_slice-6.ensures in
+    let blocks = c.in_ok-blocks.ensures ∙ ap (λ l. first cause.DeclaredAgain (over repeated_blocks l)) c.as_slice-7.ensures in
     let sections_on = c.earlier.ensures ∙ (λ i. earlier (c.in_ok-sections.ensures i) (blocks i)) in
     let sums_on = c.earlier-inner.ensures ∙ (λ i. earlier (sums i) (sections_on i)) in
     let shows_on = c.earlier-templates.ensures ∙ (λ i. earlier (shows i) (sums_on i)) in

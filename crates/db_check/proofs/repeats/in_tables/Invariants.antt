@@ -1,4 +1,5 @@
 use Rattle.std.proofs.Common.{◌≡◌, drop}
+use Rattle.db_cause.specs.declared.cause.Cause.TheVariants as cause
 use Rattle.db_model.specs.LeastFault.{earlier}
 use Rattle.db_model.specs.Lines.{over}
 use Rattle.db_model.specs.NameFaults.{repeated_in_table}
@@ -6,4 +7,4 @@ use Rattle.db_check.specs.First.{first}
 use Rattle.db_check.proofs.repeats.in_tables.Given as goal
 
 abbrev pub invariant-loop-table : goal.invariant-loop-table
-invariant-loop-table l = earlier l.found (first 40 (over repeated_in_table (drop l.table-index l.tables))) ≡ first 40 (over repeated_in_table l.tables)
+invariant-loop-table l = earlier l.found (first cause.DeclaredAgain (over repeated_in_table (drop l.table-index l.tables))) ≡ first cause.DeclaredAgain (over repeated_in_table l.tables)

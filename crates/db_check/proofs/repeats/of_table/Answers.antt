@@ -1,4 +1,5 @@
 use Rattle.std.proofs.Common.{◌∙◌, ap, sym, map, []}
+use Rattle.db_cause.specs.declared.cause.Cause.TheVariants as cause
 use Rattle.db_model.specs.declared.database.ColumnDecl.{ColumnDecl}
 use Rattle.db_model.specs.declared.database.KeyDecl.{KeyDecl}
 use Rattle.db_model.specs.LeastFault.{earlier}
@@ -10,6 +11,6 @@ use Rattle.db_check.proofs.repeats.of_table.Goals as goal
 pub returns : goal.returns
 returns c =
     c.earlier.ensures
-    ∙ ((λ i. earlier ((c.in_ok-again.ensures ∙ ap (λ l. first 40 (repeated [] (map (λ (k : KeyDecl). (k.name, k.line)) l))) c.as_slice-keys.ensures) i)
-    ((c.in_ok-columns.ensures ∙ (λ j. first 40 (repeated (map (λ (k : KeyDecl). k.name) (c.as_slice-keys.ensures j)) (map (λ (d : ColumnDecl). (d.name, d.line)) (c.as_slice.ensures j))))) i))
+    ∙ ((λ i. earlier ((c.in_ok-again.ensures ∙ ap (λ l. first cause.DeclaredAgain (repeated [] (map (λ (k : KeyDecl). (k.name, k.line)) l))) c.as_slice-keys.ensures) i)
+    ((c.in_ok-columns.ensures ∙ (λ j. first cause.DeclaredAgain (repeated (map (λ (k : KeyDecl). k.name) (c.as_slice-keys.ensures j)) (map (λ (d : ColumnDecl). (d.name, d.line)) (c.as_slice.ensures j))))) i))
     ∙ sym (table_again c.args.table.now))

@@ -1,4 +1,5 @@
 use Rattle.std.proofs.Common.{◌≡◌, drop}
+use Rattle.db_cause.specs.declared.cause.Cause.TheVariants as cause
 use Rattle.db_model.specs.LeastFault.{earlier}
 use Rattle.db_model.specs.Lines.{over}
 use Rattle.db_check.specs.Uses.{template_lines}
@@ -6,4 +7,4 @@ use Rattle.db_check.specs.First.{first}
 use Rattle.db_check.proofs.uses.of_templates.Given as goal
 
 abbrev pub invariant-loop-template : goal.invariant-loop-template
-invariant-loop-template l = earlier l.found (first 41 (over (template_lines l.known.database.now) (drop l.template-index l.templates))) ≡ first 41 (over (template_lines l.known.database.now) l.templates)
+invariant-loop-template l = earlier l.found (first cause.Undeclared (over (template_lines l.known.database.now) (drop l.template-index l.templates))) ≡ first cause.Undeclared (over (template_lines l.known.database.now) l.templates)

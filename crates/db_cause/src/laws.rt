@@ -1,0 +1,9 @@
+//! The law of the codes, the contract of a function that does nothing.
+
+ghost use Rattle.db_cause.specs.Laws.{CodesTellCauses};
+
+/// Causes with one code are one cause.
+#[tactic(auto, using(crate::proofs::Told::told))]
+pub fn codes_tell_causes()
+    ensures { CodesTellCauses }
+{}
