@@ -54,12 +54,24 @@ _npd_option() {
     mapfile -t COMPREPLY < <(compgen -W "$left" -- "$word")
 }
 
+# What `help` tells: the commands, and the lines by which the program refuses; of those that have codes, the codes.
+_npd_help() {
+    case "$1" in
+    "") echo "decode check gen words open read write database capture packet memory unbuilt" ;;
+    words) echo "1 2 3 4 5 6 7 8 9" ;;
+    database) echo "1 2 3 4 20 21 22 23 24 25 26 27 40 41 42 43 44 45 46 47" ;;
+    capture) echo "1 2 3 4 5 6" ;;
+    esac
+}
+
 _npd() {
     COMPREPLY=()
     if [ "$COMP_CWORD" -eq 1 ]; then
-        mapfile -t COMPREPLY < <(compgen -W "decode check gen help --help --version" -- "${COMP_WORDS[1]}")
+        mapfile -t COMPREPLY < <(compgen -W "decode check gen help -h --help --version" -- "${COMP_WORDS[1]}")
+    elif [ "${COMP_WORDS[1]}" = help ] && [ "$COMP_CWORD" -eq 2 ]; then
+        mapfile -t COMPREPLY < <(compgen -W "$(_npd_help "")" -- "${COMP_WORDS[2]}")
     elif [ "${COMP_WORDS[1]}" = help ]; then
-        [ "$COMP_CWORD" -ne 2 ] || mapfile -t COMPREPLY < <(compgen -W "decode check gen" -- "${COMP_WORDS[2]}")
+        [ "$COMP_CWORD" -ne 3 ] || mapfile -t COMPREPLY < <(compgen -W "$(_npd_help "${COMP_WORDS[2]}")" -- "${COMP_WORDS[3]}")
     else
         _npd_option
     fi
