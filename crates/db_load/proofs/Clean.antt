@@ -4,6 +4,8 @@ use Rattle.std.specs.Cmp.Lexicographic.{bytes_decides}
 use Rattle.std.specs.List.{list_all}
 use Rattle.std.proofs.Common.{refl, ap, sym, subst, ◌∙◌, arith}
 use Rattle.std.proofs.lemmas.Bool.{or_parts}
+use Rattle.db_cause.specs.declared.cause.Cause.{Cause}
+use Rattle.db_cause.specs.declared.cause.Cause.TheVariants as cause
 use Rattle.db_model.specs.declared.fault.Fault.{Fault}
 use Rattle.db_model.specs.Forms.{if_there}
 use Rattle.db_model.specs.LeastFault.{comes_first, earlier, least}
@@ -30,9 +32,9 @@ pub nil_parts : {A : Type 0} (xs ys : List A) → xs ++ ys ≡ [] → (xs ≡ []
 nil_parts [] ys e = (refl, e)
 nil_parts (x ∷ xs) ys e = (cc)
 
-pub no_fault : (line code : ℕ) (b : Bool) → at_line line code b ≡ [] → b ≡ false
-no_fault line code true e = (cc)
-no_fault line code false e = refl
+pub no_fault : (line : ℕ) (why : Cause) (b : Bool) → at_line line why b ≡ [] → b ≡ false
+no_fault line why true e = (cc)
+no_fault line why false e = refl
 
 one_of_two : (b : Bool) (f g : Fault) → (if b then Some f else Some g) ≡ None → ⊥
 one_of_two true f g e = (cc)
@@ -59,12 +61,12 @@ unfolding of_place
 clean k left n h =
     let own_and = nil_parts (own k left (out-Node n).line (out-Node n).attributes (names_in (out-Node n).children)) (below (children k) (left - 1) (map part (out-Node n).children)) (sym (part_inside n k left) ∙ h) in
     let of_both = nil_parts (of_attributes k (out-Node n).line (out-Node n).attributes) (of_place k left (out-Node n).line (names_in (out-Node n).children)) own_and.0 in
-    let place = nil_parts (at_line (out-Node n).line 25 (has_wrong_children k (names_in (out-Node n).children))) _ of_both.1 in
-    let deep = nil_parts (at_line (out-Node n).line 26 (left == 0)) (at_line (out-Node n).line 27 (is_astray k)) place.1 in
+    let place = nil_parts (at_line (out-Node n).line cause.WrongChildren (has_wrong_children k (names_in (out-Node n).children))) _ of_both.1 in
+    let deep = nil_parts (at_line (out-Node n).line cause.ElementTooDeep (left == 0)) (at_line (out-Node n).line cause.StrayLoopControl (is_astray k)) place.1 in
     record {
       attributes = of_both.0;
-      number = no_fault (out-Node n).line 25 (has_wrong_children k (names_in (out-Node n).children)) place.0;
-      astray = no_fault (out-Node n).line 27 (is_astray k) deep.1;
+      number = no_fault (out-Node n).line cause.WrongChildren (has_wrong_children k (names_in (out-Node n).children)) place.0;
+      astray = no_fault (out-Node n).line cause.StrayLoopControl (is_astray k) deep.1;
       inside = own_and.1;
     }
 
@@ -155,7 +157,7 @@ row_counted names row rows h = first_counted (is_counted names row) (miscounts n
 
 -- ---- the top element
 
-top_by : (b : Bool) (p : Part) → (if b then p.inside kind.Netpdl most_levels else at_line p.line 20 true) ≡ [] → p.inside kind.Netpdl most_levels ≡ []
+top_by : (b : Bool) (p : Part) → (if b then p.inside kind.Netpdl most_levels else at_line p.line cause.MisplacedElement true) ≡ [] → p.inside kind.Netpdl most_levels ≡ []
 top_by true p h = h
 top_by false p h = (cc)
 

@@ -2,6 +2,7 @@
 use Rattle.std.specs.Prelude.{◌≡◌, ℕ, zero, suc, ◌-◌, Bool, true, false, not, ◌&&◌, ◌||◌, bytes_eq, if◌then◌else◌, List, [], ◌∷◌, ◌++◌, map, slice_get, Option, Some, None}
 use Rattle.std.proofs.Common.{refl, ap, sym, subst, ◌∙◌}
 use Rattle.std.proofs.lemmas.Bool.{or_parts}
+use Rattle.db_cause.specs.declared.cause.Cause.TheVariants as cause
 use Rattle.db_model.specs.Names.{Text}
 use Rattle.db_text.specs.declared.node.Attribute.{Attribute}
 use Rattle.db_text.specs.declared.node.Node.{Node, out-Node}
@@ -122,13 +123,13 @@ record Kept (k : Kind) (attributes : List Attribute) : Type 0 where
 kept : (k : Kind) (line : ℕ) (attributes : List Attribute) → of_attributes k line attributes ≡ [] → Kept k attributes
 unfolding of_attributes
 kept k line attributes h =
-    let a = nil_parts (at_line line 21 (has_stray (decided k attributes) (rules k) [] attributes)) _ h in
-    let b = nil_parts (at_line line 22 (lacks (decided k attributes) attributes (rules k))) _ a.1 in
-    let c = nil_parts (at_line line 23 (has_malformed false (decided k attributes) (rules k) attributes)) (at_line line 24 (has_malformed true (decided k attributes) (rules k) attributes)) b.1 in
+    let a = nil_parts (at_line line cause.StrayAttribute (has_stray (decided k attributes) (rules k) [] attributes)) _ h in
+    let b = nil_parts (at_line line cause.MissingAttribute (lacks (decided k attributes) attributes (rules k))) _ a.1 in
+    let c = nil_parts (at_line line cause.MalformedValue (has_malformed false (decided k attributes) (rules k) attributes)) (at_line line cause.MalformedExpression (has_malformed true (decided k attributes) (rules k) attributes)) b.1 in
     record {
-      strays = no_fault line 21 (has_stray (decided k attributes) (rules k) [] attributes) a.0;
-      none = no_fault line 22 (lacks (decided k attributes) attributes (rules k)) b.0;
-      formed = either (λ p. has_malformed p (decided k attributes) (rules k) attributes ≡ false) (no_fault line 24 (has_malformed true (decided k attributes) (rules k) attributes) c.1) (no_fault line 23 (has_malformed false (decided k attributes) (rules k) attributes) c.0);
+      strays = no_fault line cause.StrayAttribute (has_stray (decided k attributes) (rules k) [] attributes) a.0;
+      none = no_fault line cause.MissingAttribute (lacks (decided k attributes) attributes (rules k)) b.0;
+      formed = either (λ p. has_malformed p (decided k attributes) (rules k) attributes ≡ false) (no_fault line cause.MalformedExpression (has_malformed true (decided k attributes) (rules k) attributes) c.1) (no_fault line cause.MalformedValue (has_malformed false (decided k attributes) (rules k) attributes) c.0);
     }
 
 -- ---- a tree

@@ -2,6 +2,7 @@
 use Rattle.std.specs.Prelude.{◌≡◌, ℕ, ◌+◌, ◌-◌, ◌<◌, true, false, Bool, bytes_eq, if◌then◌else◌, List, [], ◌∷◌, ◌++◌, map, length, drop, get_or, Option, None}
 use Rattle.std.proofs.Common.{refl, ap, sym, ◌∙◌, arith}
 use Rattle.std.proofs.lemmas.Grind.{common_steps}
+use Rattle.db_cause.specs.declared.cause.Cause.TheVariants as cause
 use Rattle.db_model.specs.Names.{Text}
 use Rattle.db_text.specs.declared.node.Node.{Node, out-Node, map-Node}
 use Rattle.db_text.specs.declared.node.Node.TheFolds.{fold_out-Node}
@@ -51,8 +52,8 @@ inside_from n k left r o a p b rows l ns er eo ea ep eb erows el ens =
     ∙ (ap (λ x. earlier (earlier (least (of_attributes k (out-Node n).line (out-Node n).attributes)) (least (of_place k left (out-Node n).line (names_in (out-Node n).children)))) x) (eb ∙ (ap (λ x. least (below x l (map part ns))) erows ∙ (ap (λ x. least (below (children k) x (map part ns))) el ∙ ap (λ x. least (below (children k) (left - 1) (map part x))) ens)))
     ∙ inside_is n k left))))
 
-pub child_none : (n : Node) (left : ℕ) (row : Option Child) (r : Option Fault) → row ≡ None → r ≡ least (at_line (out-Node n).line 20 true) → r ≡ least (of_child row left (part n))
-child_none n left row r erow er = er ∙ (ap (λ l. least (at_line l 20 true)) (sym (part_line n)) ∙ ap (λ x. least (of_child x left (part n))) (sym erow))
+pub child_none : (n : Node) (left : ℕ) (row : Option Child) (r : Option Fault) → row ≡ None → r ≡ least (at_line (out-Node n).line cause.MisplacedElement true) → r ≡ least (of_child row left (part n))
+child_none n left row r erow er = er ∙ (ap (λ l. least (at_line l cause.MisplacedElement true)) (sym (part_line n)) ∙ ap (λ x. least (of_child x left (part n))) (sym erow))
 
 pub below_first : (rows : List Child) (left : ℕ) (n : Node) (ns : List Node) (row : Option Child) (name : Text) → name ≡ (out-Node n).name → row ≡ row_of rows name → least (below rows left (map part (n ∷ ns))) ≡ earlier (least (of_child row left (part n))) (least (below rows left (map part ns)))
 below_first rows left n ns row name ename erow =
@@ -70,8 +71,8 @@ below_step rows left ns i n found f g w row name hi en ename erow ef eg h =
 
 pub top_is : (n : Node) → bytes_eq (out-Node n).name (spelled word.Netpdl) ≡ true → least (faults kind.Netpdl most_levels n) ≡ refusal n
 unfolding refusal
-top_is n h = ap (λ (b : Bool). least (if b then faults kind.Netpdl most_levels n else at_line (part n).line 20 true)) (sym (ap (λ t. bytes_eq t (spelled word.Netpdl)) (part_name n) ∙ h))
+top_is n h = ap (λ (b : Bool). least (if b then faults kind.Netpdl most_levels n else at_line (part n).line cause.MisplacedElement true)) (sym (ap (λ t. bytes_eq t (spelled word.Netpdl)) (part_name n) ∙ h))
 
-pub top_is_not : (n : Node) → bytes_eq (out-Node n).name (spelled word.Netpdl) ≡ false → least (at_line (out-Node n).line 20 true) ≡ refusal n
+pub top_is_not : (n : Node) → bytes_eq (out-Node n).name (spelled word.Netpdl) ≡ false → least (at_line (out-Node n).line cause.MisplacedElement true) ≡ refusal n
 unfolding refusal
-top_is_not n h = ap (λ l. least (at_line l 20 true)) (sym (part_line n)) ∙ ap (λ (b : Bool). least (if b then faults kind.Netpdl most_levels n else at_line (part n).line 20 true)) (sym (ap (λ t. bytes_eq t (spelled word.Netpdl)) (part_name n) ∙ h))
+top_is_not n h = ap (λ l. least (at_line l cause.MisplacedElement true)) (sym (part_line n)) ∙ ap (λ (b : Bool). least (if b then faults kind.Netpdl most_levels n else at_line (part n).line cause.MisplacedElement true)) (sym (ap (λ t. bytes_eq t (spelled word.Netpdl)) (part_name n) ∙ h))

@@ -1,7 +1,6 @@
 -- What an attribute's value means has its form, also where the value is missing or has none.
-use Rattle.std.specs.Prelude.{◌≡◌, ℕ, zero, suc, ◌<◌, ◌%◌, Bool, true, false, ◌&&◌, ◌==◌, if◌then◌else◌, nat_lt, nat_le, List, [], ◌∷◌, length, take, unwrap_or, Option, Some, None, Result, Ok, Err}
-use Rattle.std.specs.Char.{is_ascii_digit, is_ascii_hexdigit}
-use Rattle.std.specs.Str.Parse.{digits_value}
+use Rattle.std.specs.Prelude.{◌≡◌, ℕ, zero, suc, ◌+◌, ◌<◌, ◌%◌, Bool, true, false, ◌&&◌, ◌==◌, if◌then◌else◌, nat_lt, nat_le, List, [], ◌∷◌, length, take, unwrap_or, Option, Some, None, Result, Ok, Err}
+use Rattle.std.specs.Char.{is_ascii_digit}
 use Rattle.std.proofs.Common.{refl, arith, le-leb}
 use Rattle.std.proofs.lemmas.Bool.{and_from, and_parts}
 use Rattle.hex.specs.Hex.{decode_of, decode_pairs, pair_value, ◌>>=◌}
@@ -28,6 +27,12 @@ use Rattle.db_load.specs.Meaning.{form_by, at}
 use Rattle.db_load.specs.Parsed.{literal_step, literal_in, literal_of}
 use Rattle.db_load.specs.Values.{no_name, name_in, name_by, optional_name_by, variable_name_by, section_by, text_by, filled_by, separator_by, optional_number_by, number_by, mask_by, expr_by, literal_by, token_by, is_word}
 use Rattle.db_load.specs.Whole.{size_by}
+use Rattle.expr_text.specs.declared.lexeme.Lexeme.{Lexeme}
+use Rattle.expr_text.specs.declared.lexeme.Lexeme.TheVariants as lexeme
+use Rattle.expr_text.specs.declared.lexeme.Scanned.{Scanned}
+use Rattle.expr_text.specs.declared.token.Token.TheVariants as token
+use Rattle.expr_text.specs.Lexing as lexing
+use Rattle.expr_text.specs.Numbers.{value_in, value_of_all, number_of}
 use Rattle.expr_text.specs.Parsed.{parsed}
 
 pub both : {a b : Bool} → a ≡ true → b ≡ true → (a && b) ≡ true
@@ -78,17 +83,32 @@ separator_ok (Some t) = by_test (λ (s : Text). is_text s && nat_le (length s) 8
 
 -- ---- numbers and masks
 
-numeral_ok : (radix : ℕ) (b : Bool) (ds : Text) → if_there is_number (forms.numeral radix b ds) ≡ true
-numeral_ok radix b ds = by_test (λ (o : Option ℕ). if_there is_number o) (b && nat_le (digits_value radix ds) 4294967295) (Some (digits_value radix ds)) None (λ e. (and_parts b (nat_le (digits_value radix ds) 4294967295) e).1) (λ e. refl)
+in_range : (n : ℕ) → if_there is_number (value_in (lexing.number_or_fault n)) ≡ true
+in_range n = by_test (λ (l : Lexeme). if_there is_number (value_in l)) (nat_le n 4294967295) (lexeme.Token (token.Number n)) lexeme.TooGreat (λ e. e) (λ e. refl)
 
-numbers_ok : (t : Text) (o : Option Text) → if_there is_number (forms.number_by t o) ≡ true
-numbers_ok t None = numeral_ok 10 (forms.are_digits is_ascii_digit 10 t) t
-numbers_ok t (Some ds) = numeral_ok 16 (forms.are_digits is_ascii_hexdigit 8 ds) ds
+numeral_ok : (radix most : ℕ) (ds : Text) → if_there is_number (value_in (lexing.numeral radix most ds)) ≡ true
+unfolding lexing.numeral
+numeral_ok radix most ds = by_test (λ (l : Lexeme). if_there is_number (value_in l)) (nat_le (length ds) most) (lexing.number_or_fault (lexing.value_from radix 0 ds)) lexeme.TooGreat (λ e. in_range (lexing.value_from radix 0 ds)) (λ e. refl)
+
+all_ok : (size : ℕ) (s : Scanned) → if_there is_number (value_in s.lexeme) ≡ true → if_there is_number (value_of_all size s) ≡ true
+all_ok size s h = by_test (λ (o : Option ℕ). if_there is_number o) (s.size == size) (value_in s.lexeme) None (λ e. h) (λ e. refl)
+
+token_ok : (bs : Text) → if_there is_number (value_in (lexing.number bs).lexeme) ≡ true
+unfolding lexing.number
+token_ok bs =
+    by_test (λ (s : Scanned). if_there is_number (value_in s.lexeme)) (nat_lt 0 (length (lexing.hex_run bs)))
+    (lexing.scanned (lexing.numeral 16 8 (lexing.hex_run bs)) (2 + length (lexing.hex_run bs)))
+    (lexing.scanned (lexing.numeral 10 10 (lexing.run is_ascii_digit bs)) (length (lexing.run is_ascii_digit bs)))
+    (λ e. numeral_ok 16 8 (lexing.hex_run bs)) (λ e. numeral_ok 10 10 (lexing.run is_ascii_digit bs))
+
+numbers_ok : (t : Text) → if_there is_number (number_of t) ≡ true
+unfolding number_of
+numbers_ok [] = refl
+numbers_ok (b ∷ bs) = by_test (λ (o : Option ℕ). if_there is_number o) (is_ascii_digit b) (value_of_all (length (b ∷ bs)) (lexing.number (b ∷ bs))) None (λ e. all_ok (length (b ∷ bs)) (lexing.number (b ∷ bs)) (token_ok (b ∷ bs))) (λ e. refl)
 
 pub number_ok : (t : Option Text) → if_there is_number (optional_number_by t) ≡ true
-unfolding forms.number_of
 number_ok None = refl
-number_ok (Some t) = numbers_ok t (forms.behind_0x t)
+number_ok (Some t) = numbers_ok t
 
 abbrev has_bytes : List ℕ → Bool
 has_bytes m = nat_le 1 (length m)

@@ -1,5 +1,8 @@
 -- The faults of shape: which stand at an element, by what it is where it stands and how many levels may still stand in it. Of all faults of a text the least line is answered, and on that line the least code.
 use Rattle.std.specs.Prelude.{ℕ, ◌+◌, ◌-◌, Bool, true, false, not, ◌||◌, ◌&&◌, ◌==◌, nat_lt, nat_le, if◌then◌else◌, List, [], ◌∷◌, ◌++◌, map, bytes_eq, Option, Some, None}
+use Rattle.db_cause.specs.declared.cause.Cause.{Cause}
+use Rattle.db_cause.specs.declared.cause.Cause.TheVariants as cause
+use Rattle.db_cause.specs.Codes.{code}
 use Rattle.db_model.specs.declared.fault.Fault.{Fault}
 use Rattle.db_model.specs.LeastFault.{least}
 use Rattle.db_model.specs.Names.{Text}
@@ -73,12 +76,12 @@ abbrev pub has_rule : Option Text → List Rule → Text → Bool
 has_rule d [] name = false
 has_rule d (r ∷ rs) name = if is_known d r.need && bytes_eq name (spelled r.word) then true else has_rule d rs name
 
--- fault 21: an attribute is unknown, or is there twice
+-- an attribute is unknown, or is there twice
 abbrev pub has_stray : Option Text → List Rule → List Attribute → List Attribute → Bool
 has_stray d rs before [] = false
 has_stray d rs before (a ∷ more) = if not (has_rule d rs a.name) || has_attribute before a.name then true else has_stray d rs (before ++ a ∷ []) more
 
--- fault 22: a wanted one is missing
+-- a wanted one is missing
 abbrev pub lacks : Option Text → List Attribute → List Rule → Bool
 lacks d attributes [] = false
 lacks d attributes (r ∷ rs) = if is_wanted d r.need && not (has_attribute attributes (spelled r.word)) then true else lacks d attributes rs
@@ -87,7 +90,7 @@ abbrev pub same : Bool → Bool → Bool
 same true b = b
 same false b = not b
 
--- faults 23 and 24: a value hasn't the form that a rule gives it
+-- a value hasn't the form that a rule gives it
 abbrev pub breaks : Bool → Option Text → List Rule → Attribute → Bool
 breaks parsed d [] a = false
 breaks parsed d (r ∷ rs) a = if is_judged d r.need && (bytes_eq a.name (spelled r.word) && (same (is_parsed r.form) parsed && not (has_form r.form a.value))) then true else breaks parsed d rs a
@@ -133,7 +136,7 @@ abbrev pub disorders : List Child → ℕ → List Text → Bool
 disorders rows least [] = false
 disorders rows least (n ∷ names) = if is_row rows n then (if nat_lt (place_of rows n) least then true else disorders rows (place_of rows n) names) else disorders rows least names
 
--- fault 25: number or order of what stands in an element is wrong
+-- number or order of what stands in an element is wrong
 abbrev pub has_wrong_children : Kind → List Text → Bool
 has_wrong_children k names = miscounts names (children k) || (is_ordered k && disorders (children k) 0 names)
 
@@ -143,7 +146,7 @@ names_in ns = map (λ (n : Node). (out-Node n).name) ns
 
 -- ---- an element
 
--- fault 27: a loopctrl in no loop
+-- a loopctrl in no loop
 abbrev pub is_astray : Kind → Bool
 is_astray (kind.LoopCtrl list.Fields) = true
 is_astray (kind.LoopCtrl list.Looped) = false
@@ -151,23 +154,23 @@ is_astray (kind.LoopCtrl list.Code) = true
 is_astray (kind.LoopCtrl list.Encap) = true
 is_astray _ = false
 
-abbrev pub at_line : ℕ → ℕ → Bool → List Fault
-at_line line code stands = if stands then record { line = line; code = code } ∷ [] else []
+abbrev pub at_line : ℕ → Cause → Bool → List Fault
+at_line line why stands = if stands then record { line = line; code = code why } ∷ [] else []
 
 -- the faults of an element's attributes
 unfoldable pub of_attributes : Kind → ℕ → List Attribute → List Fault
 of_attributes k line attributes =
-    at_line line 21 (has_stray (decided k attributes) (rules k) [] attributes)
-    ++ (at_line line 22 (lacks (decided k attributes) attributes (rules k))
-    ++ (at_line line 23 (has_malformed false (decided k attributes) (rules k) attributes)
-    ++ at_line line 24 (has_malformed true (decided k attributes) (rules k) attributes)))
+    at_line line cause.StrayAttribute (has_stray (decided k attributes) (rules k) [] attributes)
+    ++ (at_line line cause.MissingAttribute (lacks (decided k attributes) attributes (rules k))
+    ++ (at_line line cause.MalformedValue (has_malformed false (decided k attributes) (rules k) attributes)
+    ++ at_line line cause.MalformedExpression (has_malformed true (decided k attributes) (rules k) attributes)))
 
 -- the faults of what stands in it, and of where it stands
 unfoldable pub of_place : Kind → ℕ → ℕ → List Text → List Fault
 of_place k left line names =
-    at_line line 25 (has_wrong_children k names)
-    ++ (at_line line 26 (left == 0)
-    ++ at_line line 27 (is_astray k))
+    at_line line cause.WrongChildren (has_wrong_children k names)
+    ++ (at_line line cause.ElementTooDeep (left == 0)
+    ++ at_line line cause.StrayLoopControl (is_astray k))
 
 -- the faults of an element itself
 abbrev pub own : Kind → ℕ → ℕ → List Attribute → List Text → List Fault
@@ -179,9 +182,9 @@ pub record Part : Type 0 where
   pub line : ℕ
   pub inside : Kind → ℕ → List Fault
 
--- fault 20: it may not stand there. Nothing in it is looked at then
+-- it may not stand there. Nothing in it is looked at then
 abbrev pub of_child : Option Child → ℕ → Part → List Fault
-of_child None left p = at_line p.line 20 true
+of_child None left p = at_line p.line cause.MisplacedElement true
 of_child (Some row) left p = p.inside row.kind left
 
 abbrev pub below : List Child → ℕ → List Part → List Fault
@@ -204,7 +207,7 @@ most_levels = 32
 
 -- the top element is the database
 abbrev pub of_top : Part → List Fault
-of_top p = if bytes_eq p.name (spelled word.Netpdl) then p.inside kind.Netpdl most_levels else at_line p.line 20 true
+of_top p = if bytes_eq p.name (spelled word.Netpdl) then p.inside kind.Netpdl most_levels else at_line p.line cause.MisplacedElement true
 
 unfoldable pub refusal : Node → Option Fault
 refusal n = least (of_top (part n))

@@ -1,8 +1,5 @@
 -- The forms of the values of attributes.
 use Rattle.std.specs.Prelude.{ℕ, Bool, true, false, ◌&&◌, if◌then◌else◌, nat_le, nat_lt, ◌==◌, List, [], ◌∷◌, take, length, bytes_eq, is_some, Option, Some, None, Result, Ok, Err}
-use Rattle.std.specs.Char.{is_ascii_digit, is_ascii_hexdigit}
-use Rattle.std.specs.List.{list_all}
-use Rattle.std.specs.Str.Parse.{digits_value}
 use Rattle.hex.specs.Hex.{decode_of}
 use Rattle.hex.specs.declared.error.FromHexError.{FromHexError}
 use Rattle.db_model.specs.Forms.{is_text}
@@ -13,31 +10,16 @@ use Rattle.db_load.specs.declared.rule.Form.TheVariants as form
 use Rattle.db_load.specs.declared.word.Word.{Word}
 use Rattle.db_load.specs.declared.word.Word.TheVariants as word
 use Rattle.db_load.specs.Parsed.{literal_of, quoted_of}
+use Rattle.expr_text.specs.Numbers.{number_of}
 use Rattle.expr_text.specs.Parsed.{parsed}
 use Rattle.db_load.specs.Words.{spelled}
 
--- ---- numbers and masks
-
--- so many digits at most, and at least one
-abbrev pub are_digits : (ℕ → Bool) → ℕ → Text → Bool
-are_digits is_digit most ds = nat_lt 0 (length ds) && (nat_le (length ds) most && list_all is_digit ds)
-
--- their number, where it isn't too great
-abbrev pub numeral : ℕ → Bool → Text → Option ℕ
-numeral radix are_right ds = if are_right && nat_le (digits_value radix ds) 4294967295 then Some (digits_value radix ds) else None
+-- ---- masks
 
 -- the digits behind `0x`
 abbrev pub behind_0x : Text → Option Text
 behind_0x (a ∷ (b ∷ ds)) = if a == 0x30 && b == 0x78 then Some ds else None
 behind_0x _ = None
-
-abbrev pub number_by : Text → Option Text → Option ℕ
-number_by t None = numeral 10 (are_digits is_ascii_digit 10 t) t
-number_by t (Some ds) = numeral 16 (are_digits is_ascii_hexdigit 8 ds) ds
-
--- 1 to 10 decimal digits, or `0x` and 1 to 8 hex digits, at most 4,294,967,295
-unfoldable pub number_of : Text → Option ℕ
-number_of t = number_by t (behind_0x t)
 
 -- what hex digits are as bytes, where there are two a byte
 abbrev pub mask_by : Result (List ℕ) FromHexError → Option (List ℕ)

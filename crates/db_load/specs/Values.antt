@@ -21,8 +21,9 @@ use Rattle.db_model.specs.Name.{is_name}
 use Rattle.db_model.specs.Names.{Text}
 use Rattle.db_load.specs.declared.word.Word.{Word}
 use Rattle.db_load.specs.declared.word.Word.TheVariants as word
-use Rattle.db_load.specs.Forms.{number_of, mask_of, is_section}
+use Rattle.db_load.specs.Forms.{mask_of, is_section}
 use Rattle.db_load.specs.Parsed.{literal_of, quoted_of}
+use Rattle.expr_text.specs.Numbers.{number_of}
 use Rattle.expr_text.specs.Parsed.{parsed}
 use Rattle.db_load.specs.Words.{spelled}
 

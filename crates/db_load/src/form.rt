@@ -11,8 +11,9 @@ use crate::choice::{
     UPDATE_ACTIONS, VALUE_TYPES, VARIABLE_VALIDITIES, is_choice,
 };
 use crate::expression::{literal_of, parsed, quoted_of};
-use crate::number::{mask_of, number_of};
+use crate::mask::mask_of;
 use db_model::{MOST_NAME, MOST_SEPARATOR, MOST_TEXT, NoMemory, is_name};
+use expr_text::number_of;
 use std::alloc::Global;
 
 fn all_printable(text: &[u8]) -> bool

@@ -10,12 +10,13 @@ use crate::Word;
 use crate::attribute::value_of;
 use crate::expression::{literal_of, parsed, quoted_of};
 use crate::form::{is_section, is_text};
-use crate::number::{mask_of, number_of};
+use crate::mask::mask_of;
 use db_model::{
     Bytes, Expr, HeaderPart, Literal, LoopControl, LoopKind, MOST_SEPARATOR, Name, NoMemory,
     ShowType, Ty, Validity, is_name,
 };
 use db_text::Node;
+use expr_text::number_of;
 use std::alloc::Global;
 
 /// The value of an attribute of an element.

@@ -8,15 +8,19 @@ ghost use Rattle.db_load.specs.Faults;
 use crate::attribute::{decided, has_malformed, has_stray, lacks};
 use crate::child::{has_wrong_children, row_of};
 use crate::{Child, Kind, ListKind, MOST_LEVELS, Word, children, rules};
+use db_cause::Cause;
 use db_model::{Fault, NoMemory};
 use db_text::Node;
 use std::alloc::Global;
 
-fn at_line(line: u32, code: u8, stands: bool) -> Option<Fault>
-    ensures { result ≡ least (Faults.at_line line code stands) }
+fn at_line(line: u32, cause: Cause, stands: bool) -> Option<Fault>
+    ensures { result ≡ least (Faults.at_line line cause stands) }
 {
     if stands {
-        Some(Fault { line, code })
+        Some(Fault {
+            line,
+            code: cause.code(),
+        })
     } else {
         None
     }
@@ -43,11 +47,19 @@ fn of_attributes(alloc: Global, kind: Kind, node: &Node) -> Result<Option<Fault>
     let malformed = has_malformed(alloc, false, decided, rules, attributes)?;
     let misparsed = has_malformed(alloc, true, decided, rules, attributes)?;
     let values = Fault::earlier(
-        at_line(node.line, 23, malformed),
-        at_line(node.line, 24, misparsed),
+        at_line(node.line, Cause::MalformedValue, malformed),
+        at_line(node.line, Cause::MalformedExpression, misparsed),
     );
-    let missing = at_line(node.line, 22, lacks(decided, attributes, rules));
-    let stray = at_line(node.line, 21, has_stray(decided, rules, attributes));
+    let missing = at_line(
+        node.line,
+        Cause::MissingAttribute,
+        lacks(decided, attributes, rules),
+    );
+    let stray = at_line(
+        node.line,
+        Cause::StrayAttribute,
+        has_stray(decided, rules, attributes),
+    );
     Ok(Fault::earlier(stray, Fault::earlier(missing, values)))
 }
 
@@ -58,10 +70,10 @@ fn of_place(kind: Kind, left: u32, node: &Node) -> Option<Fault>
 {
     let line = node.line;
     let inside = has_wrong_children(kind, node.children.as_slice());
-    let astray = at_line(line, 27, is_astray(kind));
+    let astray = at_line(line, Cause::StrayLoopControl, is_astray(kind));
     Fault::earlier(
-        at_line(line, 25, inside),
-        Fault::earlier(at_line(line, 26, left == 0), astray),
+        at_line(line, Cause::WrongChildren, inside),
+        Fault::earlier(at_line(line, Cause::ElementTooDeep, left == 0), astray),
     )
 }
 
@@ -107,7 +119,7 @@ fn of_child(
     ensures { IfOk result (λ f. f ≡ least (Faults.of_child row left (Faults.part node.now))) }
 {
     match row {
-        None => Ok(at_line(node.line, 20, true)),
+        None => Ok(at_line(node.line, Cause::MisplacedElement, true)),
         Some(row) => inside(alloc, row.kind, left, node),
     }
 }
@@ -120,6 +132,6 @@ pub fn refusal(alloc: Global, node: &Node) -> Result<Option<Fault>, NoMemory>
     if node.name.as_slice() == Word::Netpdl.spelled() {
         inside(alloc, Kind::Netpdl, MOST_LEVELS, node)
     } else {
-        Ok(at_line(node.line, 20, true))
+        Ok(at_line(node.line, Cause::MisplacedElement, true))
     }
 }
