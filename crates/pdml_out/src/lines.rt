@@ -6,10 +6,10 @@ ghost use Rattle.show.specs.Markup.{escaped};
 ghost use Rattle.show.specs.Naming.{begun, named};
 ghost use Rattle.show.specs.Shown;
 
-use db_model::{CheckedDb, NoMemory, Protocol, Reason};
+use db_model::{CheckedDb, NoMemory, Reason};
 use show::{
     BlockLabel, FieldLabel, TextForm, push, push_characters, push_hex, push_hex_and_shown,
-    push_named, push_number, template_of,
+    push_number, template_of,
 };
 
 /// Adds the beginning of the line of a field, that of one without a name where it isn't declared. The same for blocks.
@@ -113,27 +113,27 @@ pub fn push_block_line(
     push_numbers(text, pos, size, b"\">\n")
 }
 
-/// Adds the name of a protocol, an empty one where it isn't declared.
-pub fn push_protocol_name(text: &mut Vec<u8>, protocol: Option<&Protocol>) -> Result<(), NoMemory>
+/// Adds the line that opens a protocol, from how it begins.
+pub fn push_protocol_line(
+    text: &mut Vec<u8>,
+    beginning: &[u8],
+    pos: u32,
+    size: u32,
+) -> Result<(), NoMemory>
     ensures { OnOk result (text.new.items ≡
-        text.old.items ++ Pdml.protocol_named (option_copied protocol.entry)) }
+        text.old.items ++ (beginning.now ++ Pdml.numbers pos size (codes "\">\n"))) }
 {
-    match protocol {
-        Some(protocol) => push_named(text, protocol.name.as_slice(), &protocol.longname),
-        None => push_named(text, &[], &None),
-    }
+    push(text, beginning)?;
+    push_numbers(text, pos, size, b"\">\n")
 }
 
-/// Adds a position and a size.
-#[tactic(auto, unfolding(crate::specs::Pdml::placed))]
-pub fn push_placed(text: &mut Vec<u8>, pos: u32, size: u32) -> Result<(), NoMemory>
-    ensures { OnOk result (text.new.items ≡ text.old.items ++ Pdml.placed pos size) }
+/// Adds the line that opens the payload.
+#[tactic(auto, unfolding(show::specs::Naming::begun, show::specs::Naming::named))]
+pub fn push_payload_line(text: &mut Vec<u8>, pos: u32, size: u32) -> Result<(), NoMemory>
+    ensures { OnOk result (text.new.items ≡
+        text.old.items ++ (begun (codes "<proto") (codes "payload") None ++ Pdml.numbers pos size (codes "\">\n"))) }
 {
-    push(text, b" pos=\"")?;
-    push_number(text, u64::from(pos))?;
-    push(text, b"\" size=\"")?;
-    push_number(text, u64::from(size))?;
-    push(text, b"\"")
+    push_protocol_line(text, b"<proto name=\"payload\" pos=\"", pos, size)
 }
 
 /// Adds a note.

@@ -3,14 +3,13 @@ ghost use Rattle.std.specs.List.{flat_map};
 ghost use Rattle.show.specs.Labels.{labels_of};
 ghost use Rattle.pdml_out.specs.Pdml;
 
-use crate::lines::{push_payload_field, push_placed, push_protocol_name};
+use crate::lines::{push_payload_field, push_payload_line, push_protocol_line};
 use crate::nodes::push_nodes;
 use db_model::{CheckedDb, NoMemory, Node, PAYLOAD, Packet, PacketTree, Proto};
-use show::{Labels, push, push_named, push_number, push_timestamp};
+use show::{Labels, push, push_number, push_timestamp};
 use std::alloc::Global;
 
 /// Adds a protocol of the database.
-#[tactic(auto, unfolding(crate::specs::Pdml::proto_lines))]
 fn push_protocol(
     text: &mut Vec<u8>,
     db: &CheckedDb,
@@ -20,11 +19,7 @@ fn push_protocol(
     requires { labels.now ≡ labels_of db.now }
     ensures { OnOk result (text.new.items ≡ text.old.items ++ Pdml.protocol_text db.now proto.now) }
 {
-    let protocol = db.database().protocols.get(proto.number as usize);
-    push(text, b"<proto")?;
-    push_protocol_name(text, protocol)?;
-    push_placed(text, proto.pos, proto.size)?;
-    push(text, b">\n")?;
+    push_protocol_line(text, labels.line(proto.number), proto.pos, proto.size)?;
     push_nodes(text, db, labels, proto.number, proto.nodes.as_slice())?;
     push(text, b"</proto>\n")
 }
@@ -54,14 +49,10 @@ fn push_payload_nodes(text: &mut Vec<u8>, nodes: &[Node]) -> Result<(), NoMemory
 }
 
 /// Adds the payload.
-#[tactic(auto, unfolding(crate::specs::Pdml::proto_lines))]
 fn push_payload(text: &mut Vec<u8>, proto: &Proto) -> Result<(), NoMemory>
     ensures { OnOk result (text.new.items ≡ text.old.items ++ Pdml.payload_text proto.now) }
 {
-    push(text, b"<proto")?;
-    push_named(text, b"payload", &None)?;
-    push_placed(text, proto.pos, proto.size)?;
-    push(text, b">\n")?;
+    push_payload_line(text, proto.pos, proto.size)?;
     push_payload_nodes(text, proto.nodes.as_slice())?;
     push(text, b"</proto>\n")
 }

@@ -17,6 +17,20 @@ pub three_digits : (n a b c : ℕ) → 100 ≤ n → n < 1000 → a ≡ 48 + n /
 three_digits n a b c h l e f g =
     decimal_step n (omega arith) (omega arith) ∙ ap (λ (ds : List ℕ). ds ++ ((48 + n % 10) ∷ [])) (two_digits (n / 10) a b (omega arith) (omega arith) e f) ∙ ap (λ (d : ℕ). a ∷ b ∷ d ∷ []) (sym g)
 
+-- the same, added digit by digit
+pub one_added : (n a : ℕ) (t0 t1 : List ℕ) → n < 10 → a ≡ 48 + n → t1 ≡ t0 ++ a ∷ [] → t1 ≡ t0 ++ decimal n
+one_added n a t0 t1 h e f = f ∙ ap (λ (l : List ℕ). t0 ++ l) (sym (one_digit n a h e))
+
+both : (t0 t1 t2 xs ys : List ℕ) → t1 ≡ t0 ++ xs → t2 ≡ t1 ++ ys → t2 ≡ t0 ++ (xs ++ ys)
+both t0 t1 t2 xs ys e f = f ∙ ap (λ (l : List ℕ). l ++ ys) e ∙ append_assoc t0 xs ys
+
+pub two_added : (n a b : ℕ) (t0 t1 t2 : List ℕ) → 10 ≤ n → n < 100 → a ≡ 48 + n / 10 → b ≡ 48 + n % 10 → t1 ≡ t0 ++ a ∷ [] → t2 ≡ t1 ++ b ∷ [] → t2 ≡ t0 ++ decimal n
+two_added n a b t0 t1 t2 h l e f p q = both t0 t1 t2 (a ∷ []) (b ∷ []) p q ∙ ap (λ (ds : List ℕ). t0 ++ ds) (sym (two_digits n a b h l e f))
+
+pub three_added : (n a b c : ℕ) (t0 t1 t2 t3 : List ℕ) → 100 ≤ n → n < 1000 → a ≡ 48 + n / 10 / 10 → b ≡ 48 + n / 10 % 10 → c ≡ 48 + n % 10 → t1 ≡ t0 ++ a ∷ [] → t2 ≡ t1 ++ b ∷ [] → t3 ≡ t2 ++ c ∷ [] → t3 ≡ t0 ++ decimal n
+three_added n a b c t0 t1 t2 t3 h l e f g p q r =
+    both t0 t2 t3 (a ∷ b ∷ []) (c ∷ []) (both t0 t1 t2 (a ∷ []) (b ∷ []) p q) r ∙ ap (λ (ds : List ℕ). t0 ++ ds) (sym (three_digits n a b c h l e f g))
+
 -- ---- the digits of bytes
 
 hex_first : (b : ℕ) (bs : List ℕ) → encode_lower (b ∷ bs) ≡ slice_index lower_digits (b / 16) ∷ slice_index lower_digits (b % 16) ∷ encode_lower bs

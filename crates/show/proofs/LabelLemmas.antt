@@ -24,10 +24,10 @@ use Rattle.show.specs.Labels.{none, then, a_field, a_block, field_label, block_l
 -- ---- labels behind labels
 
 pub then-none : (a : ProtocolLabels) → then a none ≡ a
-then-none a = λ i. record { fields = append-nil a.fields i; blocks = append-nil a.blocks i }
+then-none a = λ i. record { line = a.line; fields = append-nil a.fields i; blocks = append-nil a.blocks i }
 
 pub then-then : (a b c : ProtocolLabels) → then (then a b) c ≡ then a (then b c)
-then-then a b c = λ i. record { fields = append_assoc a.fields b.fields c.fields i; blocks = append_assoc a.blocks b.blocks c.blocks i }
+then-then a b c = λ i. record { line = a.line; fields = append_assoc a.fields b.fields c.fields i; blocks = append_assoc a.blocks b.blocks c.blocks i }
 
 -- ---- elements
 

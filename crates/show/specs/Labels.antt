@@ -1,5 +1,5 @@
 -- What a database calls its fields and blocks, by their numbers: the field list first, then the named blocks, each of which counts itself.
-use Rattle.std.specs.Prelude.{ℕ, List, [], ◌∷◌, ◌++◌, map, slice_get, Option, Some, None}
+use Rattle.std.specs.Prelude.{ℕ, List, [], ◌∷◌, ◌++◌, map, slice_get, codes, Option, Some, None}
 use Rattle.std.specs.Option.{option_map}
 use Rattle.db_model.specs.declared.database.Database.{Database}
 use Rattle.db_model.specs.declared.database.NamedBlock.{NamedBlock}
@@ -15,6 +15,7 @@ use Rattle.db_model.specs.Numbering.{fields_in, blocks_in}
 use Rattle.show.specs.declared.labels.ProtocolLabels.{ProtocolLabels}
 use Rattle.show.specs.declared.naming.BlockNaming.{BlockNaming}
 use Rattle.show.specs.declared.naming.FieldNaming.{FieldNaming}
+use Rattle.show.specs.Naming.{begun}
 use Rattle.show.specs.Shown.{shown}
 
 -- the place of the first show template of a name
@@ -30,16 +31,17 @@ block_label name longname = record { name = name; longname = longname }
 -- ---- the labels in an element, in the order of the text
 
 abbrev pub none : ProtocolLabels
-none = record { fields = []; blocks = [] }
+none = record { line = []; fields = []; blocks = [] }
 
 abbrev pub a_field : FieldNaming → ProtocolLabels
-a_field label = record { fields = label ∷ []; blocks = [] }
+a_field label = record { line = []; fields = label ∷ []; blocks = [] }
 
 abbrev pub a_block : BlockNaming → ProtocolLabels
-a_block label = record { fields = []; blocks = label ∷ [] }
+a_block label = record { line = []; fields = []; blocks = label ∷ [] }
 
+-- some with others behind them; the line is that of the first
 abbrev pub then : ProtocolLabels → ProtocolLabels → ProtocolLabels
-then a b = record { fields = a.fields ++ b.fields; blocks = a.blocks ++ b.blocks }
+then a b = record { line = a.line; fields = a.fields ++ b.fields; blocks = a.blocks ++ b.blocks }
 
 abbrev pub all_labels : List ProtocolLabels → ProtocolLabels
 all_labels [] = none
@@ -86,8 +88,12 @@ labels_of_block templates b = then (a_block (block_label b.name b.longname)) (la
 abbrev pub labels_of_blocks : List ShowTemplate → List NamedBlock → ProtocolLabels
 labels_of_blocks templates blocks = all_labels (map (labels_of_block templates) blocks)
 
+-- how its line begins, with no field and no block
+abbrev pub only_line : Protocol → ProtocolLabels
+only_line p = record { line = begun (codes "<proto") p.name p.longname; fields = []; blocks = [] }
+
 unfoldable pub labels_of_protocol : List ShowTemplate → Protocol → ProtocolLabels
-labels_of_protocol templates p = then (labels_in templates (fields_in p.format)) (labels_of_blocks templates (blocks_in p.format))
+labels_of_protocol templates p = then (then (only_line p) (labels_in templates (fields_in p.format))) (labels_of_blocks templates (blocks_in p.format))
 
 -- those of each protocol of a database
 unfoldable pub labels_of : Database → List ProtocolLabels
@@ -110,6 +116,14 @@ field_at labels protocol number = slice_get (fields_at (slice_get labels protoco
 -- the label of a block of a protocol
 abbrev pub block_at : List ProtocolLabels → ℕ → ℕ → Option BlockNaming
 block_at labels protocol number = slice_get (blocks_at (slice_get labels protocol)) number
+
+abbrev pub line_in : Option ProtocolLabels → List ℕ
+line_in None = begun (codes "<proto") [] None
+line_in (Some l) = l.line
+
+-- how the line of a protocol begins; what isn't declared has no name
+abbrev pub line_at : List ProtocolLabels → ℕ → List ℕ
+line_at labels protocol = line_in (slice_get labels protocol)
 
 -- ---- how a field is shown
 

@@ -4,9 +4,9 @@ ghost use Rattle.db_model.specs.Numbering.{blocks_in, fields_in};
 ghost use Rattle.show.specs.Labels.{a_block, a_field, block_label, field_label, labels_in, labels_of_blocks, labels_of_cases, labels_of_element, labels_of_other, labels_of_protocol, none, template_place, then};
 
 use crate::labels::ProtocolLabels;
-use crate::naming::{BlockLabel, BlockNaming, FieldLabel, FieldNaming};
+use crate::naming::{BlockLabel, BlockNaming, FieldLabel, FieldNaming, begun_of};
 use db_model::{
-    Branch, Bytes, Case, Element, Name, NamedBlock, NoMemory, Protocol, Sequence, ShowTemplate,
+    Branch, Bytes, Bytes64, Case, Element, Name, NamedBlock, NoMemory, Protocol, Sequence, ShowTemplate,
     place_of,
 };
 use std::alloc::Global;
@@ -42,7 +42,14 @@ pub fn protocol_labels(
 ) -> Result<ProtocolLabels, NoMemory>
     ensures { IfOk result (λ labels. labels ≡ labels_of_protocol templates.now protocol.now) }
 {
+    let line = begun_of(
+        alloc,
+        b"<proto",
+        protocol.name.as_slice(),
+        &protocol.longname,
+    )?;
     let mut labels = ProtocolLabels {
+        line: Bytes64::from_vec(line),
         fields: Sequence::new(alloc),
         blocks: Sequence::new(alloc),
     };

@@ -1,6 +1,6 @@
 ghost use Rattle.std.specs.Prelude.{◌≡◌, ◌++◌, IfOk, OnOk};
 ghost use Rattle.std.specs.Option.{option_copied};
-ghost use Rattle.show.specs.Labels.{block_at, field_at, field_shown, labels_of};
+ghost use Rattle.show.specs.Labels.{block_at, field_at, field_shown, labels_of, line_at};
 ghost use Rattle.show.specs.Labels as naming;
 ghost use Rattle.show.specs.Markup.{written};
 ghost use Rattle.show.specs.Shown.{IsShowable};
@@ -9,13 +9,14 @@ use crate::label_walk::protocol_labels;
 use crate::markup::TextForm;
 use crate::naming::{BlockLabel, FieldLabel};
 use crate::value::push_shown;
-use db_model::{CheckedDb, NoMemory, Sequence, ShowTemplate};
+use db_model::{Bytes64, CheckedDb, NoMemory, Sequence, ShowTemplate};
 use std::alloc::Global;
 use std::marker::Model;
 
-/// The labels of the fields and of the blocks of one protocol, by their numbers.
+/// How the line of a protocol begins, and the labels of its fields and of its blocks, by their numbers.
 #[derive(Drop)]
 pub struct ProtocolLabels {
+    pub line: Bytes64,
     pub fields: Sequence<FieldLabel>,
     pub blocks: Sequence<BlockLabel>,
 }
@@ -55,6 +56,17 @@ impl Labels {
             protocols.push(protocol_labels(alloc, templates, protocol)?)?;
         }
         Ok(Labels { protocols })
+    }
+
+    /// How the line of the protocol of this number begins, up to where the position stands.
+    #[tactic(auto, unfolding(crate::specs::Naming::begun, crate::specs::Naming::named))]
+    pub fn line(&self, protocol: u16) -> &[u8]
+        ensures { result.now ≡ line_at self.now protocol }
+    {
+        match self.protocols.get(protocol as usize) {
+            Some(labels) => labels.line.as_slice(),
+            None => b"<proto name=\"\" pos=\"",
+        }
     }
 
     /// The label of the field of this number in the protocol of this number, None where there is no such field.

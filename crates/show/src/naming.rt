@@ -105,8 +105,9 @@ impl BlockLabel {
     }
 }
 
+/// The beginning of a line with this tag.
 #[tactic(auto, unfolding(crate::specs::Naming::begun))]
-fn begun_of(
+pub fn begun_of(
     alloc: Global,
     tag: &[u8],
     name: &[u8],

@@ -21,19 +21,26 @@ fn digit(number: u64) -> u8
     b'0' + number as u8
 }
 
-/// Adds a number below 1,000 in decimal.
-#[tactic(auto, using(crate::proofs::Digits::one_digit, crate::proofs::Digits::two_digits, crate::proofs::Digits::three_digits))]
+/// Adds a number below 1,000 in decimal, with the room asked once.
+#[tactic(auto, using(crate::proofs::Digits::one_added, crate::proofs::Digits::two_added, crate::proofs::Digits::three_added))]
 fn push_short(text: &mut Vec<u8>, number: u64) -> Result<(), NoMemory>
     requires { number < 1000 }
     ensures { OnOk result (text.new.items ≡ text.old.items ++ decimal number) }
 {
+    text.reserve(3)?;
     let tens = number / 10;
     if number < 10 {
-        push(text, &[digit(number)])
+        text.push_reserved(digit(number));
+        Ok(())
     } else if number < 100 {
-        push(text, &[digit(tens), digit(number % 10)])
+        text.push_reserved(digit(tens));
+        text.push_reserved(digit(number % 10));
+        Ok(())
     } else {
-        push(text, &[digit(tens / 10), digit(tens % 10), digit(number % 10)])
+        text.push_reserved(digit(tens / 10));
+        text.push_reserved(digit(tens % 10));
+        text.push_reserved(digit(number % 10));
+        Ok(())
     }
 }
 
