@@ -1,13 +1,16 @@
 //! Whole runs of npd's top call, as cases that stand in a text: `cases.txt` of the folder where this runs. A case
-//! that doesn't come out as it says is printed with its line that doesn't hold; the last line counts them.
+//! that doesn't come out as it says is printed with its line that doesn't hold; a line counts them. Then the lines
+//! of `rows.txt`, which say what `check` answers of a text for each cell of the table of elements.
 #![tactic(auto)]
 
 mod case;
 mod escape;
 mod judged;
 mod output;
+mod rows;
 
 use case::Case;
+use rows::rows_hold;
 use std::process::ExitCode;
 use std::rt::Files;
 use std::{fs, io};
@@ -62,12 +65,19 @@ fn all_hold(rt: &(impl Files + AllocGlobal + Print)) -> io::Result<bool> {
     Ok(failed == 0)
 }
 
+/// Whether all cases and all rows hold.
+fn both_hold(rt: &(impl Files + AllocGlobal + Print)) -> io::Result<bool> {
+    let cases = all_hold(rt)?;
+    let rows = rows_hold(rt)?;
+    Ok(cases && rows)
+}
+
 fn main(rt: HostRuntime) -> ExitCode {
-    match all_hold(&rt) {
+    match both_hold(&rt) {
         Ok(true) => ExitCode::SUCCESS,
         Ok(false) => ExitCode::FAILURE,
         Err(_) => {
-            let _ = rt.eprint("npd_cases: cases.txt isn't read, or the outcome isn't printed\n");
+            let _ = rt.eprint("npd_cases: a file isn't read, or the outcome isn't printed\n");
             ExitCode::from(2)
         }
     }
