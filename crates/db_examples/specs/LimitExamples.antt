@@ -1,6 +1,8 @@
 -- The limits, as numbers: what they are stands here a second time, so that a slip in one of them is found.
 use Rattle.std.specs.Prelude.{◌≡◌}
+use Rattle.db_model.specs.declared.bytes.TheConstants as bytes
 use Rattle.db_model.specs.declared.limits.TheConstants as most
+use Rattle.db_model.specs.declared.names.TheConstants as names
 
 -- what the decoding of one packet may use up, and where moments end
 pub record PacketLimits : Type 0 where
@@ -12,6 +14,7 @@ pub record PacketLimits : Type 0 where
   pub second : most.SECOND ≡ 1000000000
   pub stamps : most.STAMP_END ≡ 4300000000000000000
   pub deadlines : most.DEADLINE_END ≡ 9000000000000000000
+  pub bytes : bytes.MOST_BYTES ≡ 262144
 
 -- how large expressions are, and how deep blocks nest
 pub record FormLimits : Type 0 where
@@ -21,6 +24,7 @@ pub record FormLimits : Type 0 where
   pub bytes : most.MOST_NUMBER_BYTES ≡ 4
   pub nested : most.MOST_NESTED ≡ 64
   pub text : most.MOST_TEXT ≡ 64
+  pub name : names.MOST_NAME ≡ 64
   pub separator : most.MOST_SEPARATOR ≡ 8
 
 -- how much a database declares

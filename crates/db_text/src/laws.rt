@@ -1,5 +1,7 @@
 //! The laws of the answers, and texts written out, each the contract of a function that does nothing.
 
+ghost use Rattle.std.specs.Prelude.{◌≡◌};
+ghost use Rattle.db_text.specs.declared.limits.TheConstants.{MOST_TEXT_BYTES, MOST_ELEMENT_DEPTH};
 ghost use Rattle.db_text.specs.Examples.{EmptyElements, Lines, Values, Unsaid, Early, Stuck};
 ghost use Rattle.db_text.specs.Laws.{HasAnswer, OneElement, ExcludesRefusal, OneRefusal};
 
@@ -20,4 +22,10 @@ pub fn worked_texts()
     ensures unsaid { Unsaid }
     ensures early { Early }
     ensures stuck { Stuck }
+{}
+
+/// Each limit, as a number.
+pub fn limits()
+    ensures bytes { MOST_TEXT_BYTES ≡ 1048576 }
+    ensures depth { MOST_ELEMENT_DEPTH ≡ 64 }
 {}

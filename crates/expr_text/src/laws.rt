@@ -1,5 +1,7 @@
 //! The laws of the answers and of the canonical texts, each the contract of a function that does nothing.
 
+ghost use Rattle.std.specs.Prelude.{◌≡◌};
+ghost use Rattle.expr_text.specs.declared.limits.TheConstants.{MOST_EXPRESSION_BYTES};
 ghost use Rattle.expr_text.specs.Laws.{OneExpression, OneText, ExcludesRefusal, OneRefusal, HasAnswer, ParsedIsText, IsWellFormed};
 ghost use Rattle.expr_text.specs.Printing.{ReadsBack, ReadsBackSpelled, PrintsApart, PrintsTexts, RefusesLong};
 
@@ -35,4 +37,9 @@ pub fn printed_reads_back()
     ensures apart { PrintsApart }
     ensures texts { PrintsTexts }
     ensures long { RefusesLong }
+{}
+
+/// The most bytes of an expression's text, as a number.
+pub fn limits()
+    ensures { MOST_EXPRESSION_BYTES ≡ 1024 }
 {}
