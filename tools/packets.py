@@ -24,8 +24,8 @@ ELEMENTS = {
     "note": (("proto", "block"), ("reason", "pos"), ("pos",)),
 }
 NEEDED = {kind: frozenset(needed) for kind, (_, needed, _) in ELEMENTS.items()}
-# a long name that tells words for numbers at its end: `Operation (1 request, 2 reply)`
-WORDS = re.compile(r"(.*?) ?\((\d+ [^(),]+(?:, ?\d+ [^(),]+)*)\)$")
+# a long name that tells words for numbers at its end: `Operation (1 request, 2 reply)`, `Type (0x0800 IPv4)`
+WORDS = re.compile(r"(.+?) ?\(((?:0x[0-9a-f]+|\d+) [^(),]+(?:, ?(?:0x[0-9a-f]+|\d+) [^(),]+)*)\)$")
 
 
 class Refused(Exception):
@@ -198,11 +198,15 @@ def named(at):
     """What people call a protocol, a block or a field, and what its long name says of a field's number."""
     long = at.get("longname") or at["name"]
     words = WORDS.match(long)
-    if not words or not words[1]:
-        return long, ""
-    said = dict(it.strip().split(" ", 1) for it in words[2].split(","))
     value = at.get("value", "")
-    return words[1], said.get(str(int(value, 16)), "") if 0 < len(value) <= 8 else ""
+    if not words:
+        return long, ""
+    number = int(value, 16) if 0 < len(value) <= 8 else None
+    for it in words[2].split(","):
+        key, word = it.strip().split(" ", 1)
+        if int(key, 0 if key.startswith("0x") else 10) == number:
+            return words[1], word
+    return words[1], ""
 
 
 def opened(name):

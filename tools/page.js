@@ -242,12 +242,14 @@ async function refresh() {
 
 // ---- the packet that is chosen
 
+const WORDS = /^(.+?) ?\(((?:0x[0-9a-f]+|\d+) [^(),]+(?:, ?(?:0x[0-9a-f]+|\d+) [^(),]+)*)\)$/;
+
 // its long name, and what that says of a number: `Operation (1 request, 2 reply)`, `Lifetime in seconds`
 function called(node) {
-  const long = node.long || node.name, words = /^(.+?) ?\((\d+ [^(),]+(?:, ?\d+ [^(),]+)*)\)$/.exec(long);
+  const long = node.long || node.name, words = WORDS.exec(long);
   const number = node.kind === FIELD && node.size > 0 && node.size <= 4 ? parseInt(node.value, 16) : NaN;
   if (words) {
-    const said = words[2].split(",").map((it) => /^ ?(\d+) (.*)$/.exec(it)).find((it) => Number(it[1]) === number);
+    const said = words[2].split(",").map((it) => /^ ?(\w+) (.*)$/.exec(it)).find((it) => Number(it[1]) === number);
     return [words[1], said ? said[2] : ""];
   }
   return [long, / in seconds$/.test(long) && number >= 60 ? duration(number) : ""];
