@@ -29,10 +29,10 @@ WORDS = re.compile(r"(.+?) ?\(((?:0x[0-9a-f]+|\d+) [^(),]+(?:, ?(?:0x[0-9a-f]+|\
 
 
 class Refused(Exception):
-    """A text that isn't what it is read as: the line, from 1, and why."""
+    """A text that isn't what it is read as: its file, the line, from 1, and why."""
 
-    def __init__(self, line, why):
-        super().__init__(f"line {line}: {why}")
+    def __init__(self, name, line, why):
+        super().__init__(f"{'standard input' if name == '-' else name}: line {line}: {why}")
 
 
 class Node:
@@ -45,12 +45,12 @@ class Node:
 
 
 class Reader:
-    """Reads a text of markup in pieces; `start`, `end` and `text` are those of the form, and add to `batch`."""
+    """Reads a file of markup in pieces; `start`, `end` and `text` are those of the form, and add to `batch`."""
 
     form = ""
 
-    def __init__(self, stream):
-        self.stream, self.batch, self.open = stream, [], []
+    def __init__(self, name):
+        self.name, self.stream, self.batch, self.open = name, opened(name), [], []
         self.parser = expat.ParserCreate()
         self.parser.buffer_text = True
         self.parser.StartElementHandler, self.parser.EndElementHandler = self.start, self.end
@@ -58,7 +58,7 @@ class Reader:
         self.parser.StartDoctypeDeclHandler = lambda *_: self.refuse("a document type isn't read")
 
     def refuse(self, why):
-        raise Refused(self.parser.CurrentLineNumber, why)
+        raise Refused(self.name, self.parser.CurrentLineNumber, why)
 
     def batches(self):
         """The packets of each piece that was read, as lists. What was made of them goes out before more is waited for."""
@@ -72,7 +72,7 @@ class Reader:
             except expat.ExpatError as err:
                 self.batch, found = [], self.batch
                 yield found
-                raise Refused(err.lineno, self.broken(err)) from None
+                raise Refused(self.name, err.lineno, self.broken(err)) from None
             self.batch, found = [], self.batch
             yield found
 
@@ -125,8 +125,8 @@ class Psml(Reader):
     INSIDE = {"psml": [()], "structure": [("psml",)], "packet": [("psml",)]}
     INSIDE["section"] = [("psml", "structure"), ("psml", "packet")]
 
-    def __init__(self, stream):
-        super().__init__(stream)
+    def __init__(self, name):
+        super().__init__(name)
         self.names, self.texts, self.is_told = [], [], False
 
     def start(self, kind, at):
@@ -231,17 +231,22 @@ def words(text, epilog, more):
     return parser.parse_args()
 
 
-def run(tool, name, *rest):
+def plain(text):
+    """A text as one that fits into a line and leaves a terminal as it is."""
+    return text if text.isprintable() else "".join(it if it.isprintable() else "." for it in text)
+
+
+def run(tool, args):
     """Runs a tool over a file. It ends as other filters do where nobody reads what it writes, and tells where a text isn't
     what it should be."""
     for sign in (signal.SIGPIPE, signal.SIGINT):
         signal.signal(sign, signal.SIG_DFL)
     sys.stdout.reconfigure(encoding="utf-8", errors="backslashreplace")
     try:
-        tool(opened(name), *rest)
+        tool(args)
         sys.stdout.flush()
     except Refused as err:
         sys.stdout.flush()
-        sys.exit(f"{program()}: {'standard input' if name == '-' else name}: {err}")
+        sys.exit(f"{program()}: {err}")
     except OSError as err:
-        sys.exit(f"{program()}: {err.filename or name}: {err.strerror}")
+        sys.exit(f"{program()}: {err.filename or args.file}: {err.strerror}")
