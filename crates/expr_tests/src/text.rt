@@ -1,5 +1,5 @@
 use db_model::NoMemory;
-use expr_text::{ExprFail, parse_expr, print_expr};
+use expr_text::{ExprFail, number_of, parse_expr, print_expr};
 use std::alloc::{AllocError, Global};
 use std::test::Fail;
 
@@ -160,6 +160,31 @@ const CANONICAL: [(&[u8], &[u8]); 19] = [
     (b"checkupdatelookuptable(t)", b"checkupdatelookuptable(t)"),
 ];
 
+/// Texts with the number that each of them is, or none.
+const NUMBERS: [(&[u8], Option<u32>); 21] = [
+    (b"0", Some(0)),
+    (b"9", Some(9)),
+    (b"0000000010", Some(10)),
+    (b"00000000010", None),
+    (b"4294967295", Some(4_294_967_295)),
+    (b"4294967296", None),
+    (b"9999999999", None),
+    (b"0x0", Some(0)),
+    (b"0x1f", Some(31)),
+    (b"0xffFFFFff", Some(4_294_967_295)),
+    (b"0x000000001", None),
+    (b"0x", None),
+    (b"0xg", None),
+    (b"0x1g", None),
+    (b"0X1", None),
+    (b"", None),
+    (b" 1", None),
+    (b"1 ", None),
+    (b"+1", None),
+    (b"1a", None),
+    (b"a", None),
+];
+
 /// Whether a text has exactly this fault, or none.
 fn has_fault(alloc: Global, text: &[u8], fault: Fault) -> Result<bool, NoMemory> {
     match parse_expr(alloc, text) {
@@ -167,6 +192,11 @@ fn has_fault(alloc: Global, text: &[u8], fault: Fault) -> Result<bool, NoMemory>
         Err(ExprFail::Fault { at, code }) => Ok(fault == Some((at, code))),
         Err(ExprFail::NoMemory) => Err(NoMemory),
     }
+}
+
+/// Whether a text is exactly this number, or none.
+fn has_number(text: &[u8], number: Option<u32>) -> bool {
+    number_of(text) == number
 }
 
 fn repeated(
@@ -217,6 +247,15 @@ fn canonical_texts_are_printed_and_read_back(rt: HostRuntime) -> Result<(), Fail
         assert!(rt; is_printed);
         let is_read_back = has_canonical(rt.alloc(), canonical, canonical)?;
         assert!(rt; is_read_back);
+    }
+    Ok(())
+}
+
+#[test]
+fn a_number_is_a_whole_text(rt: HostRuntime) -> Result<(), Fail> {
+    for (text, number) in &NUMBERS {
+        let is_so = has_number(text, *number);
+        assert!(rt; is_so);
     }
     Ok(())
 }
