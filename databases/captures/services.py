@@ -1,4 +1,4 @@
-"""The captures of the protocols of hosts, from the layouts and examples of their standards: `hosts()` gives names and bytes."""
+"""The captures of the protocols of hosts, from the layouts and examples of their standards: `services()` gives names and bytes."""
 import struct
 
 CLIENT, SERVER = bytes([192, 0, 2, 1]), bytes([192, 0, 2, 53])
@@ -322,7 +322,7 @@ def rtcp():
     return [asks(5060, 5060, invite), answers(7000, 6000, media), answers(7001, 6001, sender + names + x("81cb0001") + u32(0x11223344))]
 
 
-def hosts():
+def services():
     named = [dhcp6, netbios, dns_records, lines, mqtt, coap, modbus, postgresql, mysql, smb, rpc, ldap, kerberos, snmp]
     for made in [*named, http2, websocket, rtcp]:
         yield "hosts_" + made.__name__, capture(*made())
