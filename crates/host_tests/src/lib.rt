@@ -10,4 +10,6 @@ mod files;
 #[cfg(test)]
 mod memory;
 #[cfg(test)]
+mod sizes;
+#[cfg(test)]
 mod steps;

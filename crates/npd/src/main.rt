@@ -8,8 +8,10 @@ use npd_host::FileHost;
 use npd_top::{Status, run_serial};
 use npd_words::{WordsFail, read_words};
 use std::alloc::Global;
+use std::fs::File;
+use std::os::fd::AsRawFd;
 use std::process::ExitCode;
-use std::rt::Env;
+use std::rt::{Env, Files};
 use std::{env, io, str};
 
 /// The words behind the program's name.
@@ -119,7 +121,24 @@ fn say(rt: &(impl Eprint + AllocGlobal), status: &Status) {
     }
 }
 
+/// What stands in for a standard stream with which the program was not started, so that no file gets its number: a
+/// folder, which can be neither read nor written. None: each of the three is there, or there is no such folder.
+fn stand_in<R: Files>(rt: &R) -> Option<R::File>
+where
+    R::File: AsRawFd,
+{
+    match File::open(rt, "/") {
+        Ok(folder) => if folder.as_raw_fd() < 3 {
+            Some(folder)
+        } else {
+            None
+        },
+        Err(_) => None,
+    }
+}
+
 fn main(rt: HostRuntime) -> ExitCode {
+    let stand_ins = [stand_in(&rt), stand_in(&rt), stand_in(&rt)];
     let status = match words(&rt) {
         Ok(words) => run_serial(
             rt.alloc(),
@@ -129,5 +148,6 @@ fn main(rt: HostRuntime) -> ExitCode {
         Err(error) => refused(&rt, &error),
     };
     say(&rt, &status);
+    drop(stand_ins);
     ExitCode::from(status.exit())
 }
