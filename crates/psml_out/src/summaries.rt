@@ -135,11 +135,7 @@ fn sections_of_template(
 
 /// What pieces add to each of so many sections.
 #[tactic(auto, using(crate::proofs::BySection::one_more_section))]
-fn by_section(
-    alloc: Global,
-    count: usize,
-    pieces: &[Piece],
-) -> Result<Sequence<Contents>, NoMemory>
+fn by_section(alloc: Global, count: usize, pieces: &[Piece]) -> Result<Sequence<Contents>, NoMemory>
     ensures { IfOk result (λ all. all ≡ naming.by_section count pieces.now) }
 {
     let mut all = Sequence::new(alloc);
@@ -151,11 +147,7 @@ fn by_section(
 
 /// What pieces add to the section of this number.
 #[tactic(auto, using(crate::proofs::BySection::one_more_piece))]
-fn contents_for(
-    alloc: Global,
-    section: usize,
-    pieces: &[Piece],
-) -> Result<Contents, NoMemory>
+fn contents_for(alloc: Global, section: usize, pieces: &[Piece]) -> Result<Contents, NoMemory>
     ensures { IfOk result (λ all. all ≡ naming.contents_for section pieces.now) }
 {
     let mut all = Contents::new(alloc);

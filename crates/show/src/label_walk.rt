@@ -6,8 +6,8 @@ ghost use Rattle.show.specs.Labels.{a_block, a_field, block_label, field_label, 
 use crate::labels::ProtocolLabels;
 use crate::naming::{BlockLabel, BlockNaming, FieldLabel, FieldNaming, begun_of};
 use db_model::{
-    Branch, Bytes, Bytes64, Case, Element, Name, NamedBlock, NoMemory, Protocol, Sequence, ShowTemplate,
-    place_of,
+    Branch, Bytes, Bytes64, Case, Element, Name, NamedBlock, NoMemory, Protocol, Sequence,
+    ShowTemplate, place_of,
 };
 use std::alloc::Global;
 
