@@ -7,3 +7,4 @@ pub mod Followed
 pub mod Outcomes
 pub mod Passes
 pub mod Runs
+pub mod Stays

@@ -1,5 +1,5 @@
 -- A machine over bytes, by which a text is read. No public clause names it: the lemmas in proofs/ tie it to the grammar.
-use Rattle.std.specs.Prelude.{ℕ, suc, Bool, true, false, ◌&&◌, ◌==◌, nat_le, nat_lt, if◌then◌else◌, List, [], ◌∷◌, ◌++◌, length, slice_get, codes, Option, Some, None}
+use Rattle.std.specs.Prelude.{ℕ, suc, Bool, true, false, ◌&&◌, ◌||◌, ◌==◌, not, nat_le, nat_lt, if◌then◌else◌, List, [], ◌∷◌, ◌++◌, length, slice_get, codes, Option, Some, None}
 use Rattle.db_text.specs.declared.limits.TheConstants.{MOST_ELEMENT_DEPTH}
 use Rattle.db_text.specs.declared.mode.Act.{Act}
 use Rattle.db_text.specs.declared.mode.Act.TheVariants as act
@@ -202,6 +202,18 @@ decide mode.Slash n line b = slash b
 decide (mode.Closing read) n line b = closing_next read b (slice_get (top_of n.names) read)
 decide mode.Closed n line b = ending b
 
+-- ---- bytes that leave a mode as it is
+
+-- a byte of a value that counts as itself and ends no line
+abbrev pub is_plain : ℕ → ℕ → Bool
+is_plain quote b = (nat_le 0x20 b && nat_le b 0x7E) && not (b == 0x3C || b == 0x26 || b == quote)
+
+-- a byte that only goes on with the attribute's name or value that is being read
+abbrev pub keeps : Mode → ℕ → Bool
+keeps mode.AttributeName b = is_name_byte b
+keeps (mode.Value quote) b = is_plain quote b
+keeps _ b = false
+
 -- ---- what an act does
 
 abbrev pub is_empty : Stack → Bool
@@ -259,6 +271,12 @@ parted (act.AddsToWord b) n q = parts q.frames (q.word ++ b ∷ []) q.value q.to
 parted (act.AddsToValue b) n q = parts q.frames q.word (q.value ++ b ∷ []) q.top
 parted act.EndsAttribute n q = ended q
 parted act.Closes n q = closed (top_of n.names) q q.frames
+
+-- bytes that only go on with it
+abbrev pub lengthened : Mode → List ℕ → Parts → Parts
+lengthened mode.AttributeName bs q = parts q.frames (q.word ++ bs) q.value q.top
+lengthened (mode.Value quote) bs q = parts q.frames q.word (q.value ++ bs) q.top
+lengthened _ bs q = q
 
 -- ---- the machine
 

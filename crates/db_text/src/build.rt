@@ -1,4 +1,5 @@
-ghost use Rattle.std.specs.Prelude.{◌≡◌, ◌≤◌, length, IfOk};
+ghost use Rattle.std.specs.Prelude.{◌≡◌, ◌≤◌, ℕ, length, IfOk};
+ghost use Rattle.db_text.specs.declared.notes.Notes.{Notes};
 ghost use Rattle.db_text.specs.Outcome;
 
 use crate::decide::decide;
@@ -7,6 +8,7 @@ use crate::node::Node;
 use crate::notes::Notes;
 use crate::parts::Parts;
 use crate::scan::next_line;
+use crate::staying::staying;
 use db_model::NoMemory;
 use std::alloc::Global;
 
@@ -31,6 +33,21 @@ fn advance(
     }
 }
 
+/// Adds the bytes that leave a mode as it is to what is being read, and gives those behind them.
+fn behind_added<'a>(
+    alloc: Global,
+    mode: Mode,
+    parts: &mut Parts,
+    text: &'a [u8],
+) -> Result<&'a [u8], NoMemory>
+    ensures same { IfOk result (λ behind. (line : ℕ) (n : Notes) → Outcome.built line mode n parts.new behind.now ≡ Outcome.built line mode n parts.old text.now) }
+    ensures within { IfOk result (λ behind. length behind.now ≤ length text.now) }
+{
+    let (bytes, behind) = text.split_at(staying(mode, text));
+    parts.lengthen(alloc, mode, bytes)?;
+    Ok(behind)
+}
+
 /// The element of a text of the grammar.
 pub fn build(alloc: Global, text: &[u8]) -> Result<Option<Node>, NoMemory>
     requires { length text.now ≤ 1048576 }
@@ -47,7 +64,7 @@ pub fn build(alloc: Global, text: &[u8]) -> Result<Option<Node>, NoMemory>
         };
         mode = next;
         line = next_line(line, *byte);
-        rest = behind;
+        rest = behind_added(alloc, mode, &mut parts, behind)?;
     }
     Ok(parts.top)
 }

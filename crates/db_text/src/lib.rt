@@ -17,6 +17,7 @@ mod notes;
 mod parts;
 mod read;
 mod scan;
+mod staying;
 mod tag;
 
 pub use fail::TextFail;

@@ -1,15 +1,16 @@
-ghost use Rattle.std.specs.Prelude.{◌≡◌, OnOk, IfOk};
+ghost use Rattle.std.specs.Prelude.{◌≡◌, ◌++◌, OnOk, IfOk};
 ghost use Rattle.db_text.specs.Machine;
 ghost use Rattle.db_text.specs.Tree;
 
 use crate::frame::Frame;
 use crate::frames::Frames;
-use crate::mode::Act;
+use crate::mode::{Act, Mode};
 use crate::node::{Attribute, Node};
 use crate::notes::Notes;
 use db_model::{Bytes64, NoMemory, Sequence};
 use sqlite_items::Items;
 use std::alloc::Global;
+use std::mem;
 
 /// The parts of elements that were read.
 #[derive(Drop)]
@@ -27,6 +28,16 @@ fn copy_of(alloc: Global, bytes: &[u8]) -> Result<Bytes64, NoMemory>
     ensures { IfOk result (λ b. b ≡ bytes.now) }
 {
     Ok(Bytes64::from_vec(Vec::from_slice(alloc, bytes)?))
+}
+
+/// Adds bytes at the end.
+fn lengthen(alloc: Global, bytes: &mut Sequence<u8>, more: &[u8]) -> Result<(), NoMemory>
+    ensures { OnOk result (bytes.new ≡ bytes.old ++ more.now) }
+{
+    let mut all = mem::replace(bytes, Sequence::new(alloc)).into_vec();
+    all.extend_from_slice(more)?;
+    *bytes = Sequence::from_vec(all);
+    Ok(())
 }
 
 /// An attribute of a name and a value.
@@ -123,6 +134,17 @@ impl Parts {
                 let node = element_of(alloc, name, frame)?;
                 self.put(node)
             }
+        }
+    }
+
+    /// Adds bytes that leave this mode as it is to the name or the value that is being read.
+    pub fn lengthen(&mut self, alloc: Global, mode: Mode, bytes: &[u8]) -> Result<(), NoMemory>
+        ensures { OnOk result (self.new ≡ Machine.lengthened mode bytes.now self.old) }
+    {
+        match mode {
+            Mode::AttributeName => lengthen(alloc, &mut self.word, bytes),
+            Mode::Value { .. } => lengthen(alloc, &mut self.value, bytes),
+            _ => Ok(()),
         }
     }
 

@@ -1,4 +1,5 @@
-ghost use Rattle.std.specs.Prelude.{◌≡◌, ◌≤◌, ◌<◌, ◌+◌, length};
+ghost use Rattle.std.specs.Prelude.{◌≡◌, ◌≤◌, ◌<◌, ◌+◌, ℕ, length};
+ghost use Rattle.db_text.specs.declared.notes.Notes.{Notes};
 ghost use Rattle.db_text.specs.Machine;
 ghost use Rattle.db_text.specs.Outcome;
 ghost use Rattle.db_text.specs.Text;
@@ -7,6 +8,7 @@ use crate::decide::decide;
 use crate::fail::TextFail;
 use crate::mode::Mode;
 use crate::notes::Notes;
+use crate::staying::staying;
 use db_cause::Cause;
 use std::alloc::Global;
 
@@ -33,6 +35,15 @@ fn advance(mode: Mode, notes: &mut Notes, line: u32, byte: u8) -> Result<Mode, T
             Ok(next.mode)
         }
     }
+}
+
+/// The bytes behind those that leave a mode as it is.
+fn behind_staying(mode: Mode, text: &[u8]) -> &[u8]
+    ensures same { (line : ℕ) (n : Notes) → Outcome.outcome line mode n result.now ≡ Outcome.outcome line mode n text.now }
+    ensures within { length result.now ≤ length text.now }
+{
+    let (_staying, behind) = text.split_at(staying(mode, text));
+    behind
 }
 
 fn is_between(mode: Mode) -> bool
@@ -74,7 +85,7 @@ pub fn scan(alloc: Global, text: &[u8]) -> Result<Option<u32>, TextFail>
             Err(fail) => return Err(fail),
         }
         line = next_line(line, *byte);
-        rest = behind;
+        rest = behind_staying(mode, behind);
     }
     finish(mode, &notes, line)
 }

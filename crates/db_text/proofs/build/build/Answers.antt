@@ -15,9 +15,11 @@ loop-byte-preserved c =
     let l = c.loop-byte in
     let less = c.in-Some.ensures.cases.1 in
     let first = l.invariant.0 in
-    let most = c.next_line-line.ensures.bound in (
-      omega (arith, less, first, most),
-      ap (λ x. built x c.in-Some-2.next c.advance.new.notes c.advance.new.parts c.in-Some.behind.now) c.next_line-line.ensures.value
+    let most = c.next_line-line.ensures.bound in
+    let fewer = c.in_ok-rest.ensures.within in (
+      omega (arith, less, first, most, fewer),
+      c.in_ok-rest.ensures.same c.next_line-line.result c.advance.new.notes
+          ∙ ap (λ x. built x c.in-Some-2.next c.advance.new.notes c.advance.new.parts c.in-Some.behind.now) c.next_line-line.ensures.value
           ∙ built_on l.line l.mode l.notes l.parts c.in-Some.byte.now c.in-Some.behind.now l.rest.now c.in-Some-2.next c.advance.new.notes c.advance.new.parts c.in-Some.ensures.cases.0
           (subst (λ o. Built l.line l.mode l.notes l.parts c.in-Some.byte.now o c.advance.new.notes c.advance.new.parts) c.in-Some-2.is c.in_ok-next.ensures)
           ∙ l.invariant.1,

@@ -13,9 +13,11 @@ loop-byte-preserved c =
     let l = c.loop-byte in
     let less = c.in-Some.ensures.cases.1 in
     let first = l.invariant.0 in
-    let most = c.next_line-line.ensures.bound in (
-      omega (arith, less, first, most),
-      ap (λ x. outcome x c.in-Ok.next c.advance.new.notes c.in-Some.behind.now) c.next_line-line.ensures.value
+    let most = c.next_line-line.ensures.bound in
+    let fewer = c.behind_staying-rest.ensures.within in (
+      omega (arith, less, first, most, fewer),
+      c.behind_staying-rest.ensures.same c.next_line-line.result c.advance.new.notes
+          ∙ ap (λ x. outcome x c.in-Ok.next c.advance.new.notes c.in-Some.behind.now) c.next_line-line.ensures.value
           ∙ taken l.line l.mode l.notes c.in-Some.byte.now c.in-Some.behind.now l.rest.now c.in-Ok.next c.advance.new.notes c.in-Some.ensures.cases.0 c.in-Ok.ensures
           ∙ l.invariant.1,
     )

@@ -1,0 +1,7 @@
+use Rattle.std.proofs.Common.{◌≡◌, true, take}
+use Rattle.std.specs.List.{list_all}
+use Rattle.db_text.specs.Machine
+use Rattle.db_text.proofs.staying.plain.Given as goal
+
+abbrev pub invariant-loop-i : goal.invariant-loop-i
+invariant-loop-i l = list_all (Machine.is_plain l.quote) (take l.i l.text) ≡ true
