@@ -147,9 +147,9 @@ fn breaks(
     ensures { IfOk result (λ r. r ≡ Faults.breaks parsed (option_copied decided.entry) rules.now attribute.now) }
 {
     for rule in rules {
-        if is_judged(decided, rule.need)
+        if is_parsed(rule.form) == parsed
+            && is_judged(decided, rule.need)
             && attribute.name.as_slice() == rule.word.spelled()
-            && is_parsed(rule.form) == parsed
             && !has_form(alloc, rule.form, attribute.value.as_slice())?
         {
             return Ok(true);
