@@ -6,6 +6,5 @@
 mod code;
 mod resolve;
 
-pub use code::ExprCode;
-pub use code::FieldNumbers;
+pub use code::{ExprCode, FieldNumbers};
 pub use resolve::code_of;
