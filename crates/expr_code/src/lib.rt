@@ -4,6 +4,7 @@
 #![tactic(auto)]
 
 mod code;
+mod numbers;
 mod resolve;
 
 pub use code::{ExprCode, FieldNumbers};
