@@ -1,5 +1,4 @@
 ghost use Rattle.std.specs.Prelude.{◌≡◌, ◌<◌, IsSome, OnOk, Some, slice_get};
-ghost use Rattle.db_model.specs.Numbering.{names_of_protocol};
 ghost use Rattle.decode_vm.specs.Left.{Running, StepsTo};
 ghost use Rattle.decode_vm.specs.Machine.{opened, place_behind, way_of};
 ghost use Rattle.decode_vm.specs.Sound.{Sound};
@@ -12,9 +11,10 @@ use crate::enter::{enter, open};
 use crate::field::place_field;
 use crate::machine::{Machine, Mode};
 use crate::set::assign;
-use crate::update::update;
+use crate::update::add_entry;
 use crate::values::evaluate_number;
-use db_model::{Answers, CheckedDb, Expr, FieldKind, LoopControl, NoMemory, STAMP_END, Way};
+use db_model::{Answers, CheckedDb, FieldKind, LoopControl, NoMemory, STAMP_END, Way};
+use expr_code::ExprCode;
 use pdl_code::{Op, ProtoCode};
 use std::alloc::Global;
 
@@ -22,7 +22,6 @@ use std::alloc::Global;
 pub fn act<A: Answers>(
     alloc: Global,
     db: &CheckedDb,
-    protocol: u16,
     code: &ProtoCode,
     pc: usize,
     m: &mut Machine,
@@ -32,9 +31,9 @@ pub fn act<A: Answers>(
     requires time { m.old.frame.env.packet.stamp < STAMP_END }
     requires sound { Sound m.old }
     requires mode { m.old.mode ≡ At pc }
-    requires running { Running db.now (names_of_protocol db.now protocol) code.now m.old (A.content answers.old) (A.told answers.old) }
+    requires running { Running db.now code.now m.old (A.content answers.old) (A.told answers.old) }
     ensures database { A.database answers.new ≡ db.now }
-    ensures moves { StepsTo db.now (names_of_protocol db.now protocol) code.now m.old (A.content answers.old) (A.told answers.old) result m.new (A.content answers.new) (A.told answers.new) }
+    ensures moves { StepsTo db.now code.now m.old (A.content answers.old) (A.told answers.old) result m.new (A.content answers.new) (A.told answers.new) }
 {
     let Some(op) = code.ops.get(pc) else {
         unreachable!()
@@ -56,43 +55,15 @@ pub fn act<A: Answers>(
             place_field(alloc, *number, kind.get(), 0, behind(code, pc, 0), m)
         }
         Op::SizedField { number, size } => {
-            sized_field(alloc, db, protocol, code, pc, *number, size, m, answers)
+            sized_field(alloc, db, code, pc, *number, size, m, answers)
         }
         Op::Assign { variable, value } => {
-            assign(alloc, db, protocol, code, pc, *variable, value, m, answers)
+            assign(alloc, db, code, pc, *variable, value, m, answers)
         }
-        Op::Update {
-            table,
-            validity,
-            keep,
-            hit,
-            keys,
-            row,
-        } => update(
-            alloc,
-            db,
-            protocol,
-            code,
-            pc,
-            *table,
-            *validity,
-            *keep,
-            *hit,
-            keys.as_slice(),
-            row.as_slice(),
-            m,
-            answers,
-        ),
-        Op::NextProto { value } => next_proto(alloc, db, protocol, code, pc, value, m, answers),
-        Op::Test { value, to } => test(alloc, db, protocol, code, pc, value, *to, m, answers),
-        Op::Switch {
-            value,
-            ranges,
-            targets,
-            otherwise,
-        } => switch(
-            alloc, db, protocol, code, pc, value, ranges, targets, *otherwise, m, answers,
-        ),
+        Op::Update(update) => add_entry(alloc, db, code, pc, update, m, answers),
+        Op::NextProto { value } => next_proto(alloc, db, code, pc, value, m, answers),
+        Op::Test { value, to } => test(alloc, db, code, pc, value, *to, m, answers),
+        Op::Switch { value, choice } => switch(alloc, db, code, pc, value, choice, m, answers),
         Op::Block { number, after } => {
             let body = behind(code, pc, 0);
             open(alloc, *number, body, behind(code, pc, *after), m)
@@ -100,7 +71,7 @@ pub fn act<A: Answers>(
         Op::Include { block } => include(alloc, code, pc, *block, m),
         Op::Loop { kind, value, after } => {
             enter(
-                alloc, db, protocol, code, pc, *kind, value, *after, m, answers,
+                alloc, db, code, pc, *kind, value, *after, m, answers,
             )
         }
     }
@@ -110,11 +81,10 @@ pub fn act<A: Answers>(
 fn sized_field<A: Answers>(
     alloc: Global,
     db: &CheckedDb,
-    protocol: u16,
     code: &ProtoCode,
     pc: usize,
     number: u32,
-    size: &Expr,
+    size: &ExprCode,
     m: &mut Machine,
     answers: &mut A,
 ) -> Result<(), NoMemory>
@@ -124,9 +94,9 @@ fn sized_field<A: Answers>(
     requires mode { m.old.mode ≡ At pc }
     requires stands { slice_get code.now.ops pc ≡ Some (SizedField number size.now) }
     ensures database { A.database answers.new ≡ db.now }
-    ensures moves { StepsTo db.now (names_of_protocol db.now protocol) code.now m.old (A.content answers.old) (A.told answers.old) result m.new (A.content answers.new) (A.told answers.new) }
+    ensures moves { StepsTo db.now code.now m.old (A.content answers.old) (A.told answers.old) result m.new (A.content answers.new) (A.told answers.new) }
 {
-    match evaluate_number(alloc, db, protocol, size, m, answers)? {
+    match evaluate_number(alloc, db, size, m, answers)? {
         Some(n) => {
             let after = behind(code, pc, 0);
             place_field(alloc, number, &FieldKind::Variable, n, after, m)

@@ -97,7 +97,7 @@ fn protocol<A: Answers>(
     let Some(code) = code.protocols.get(number as usize) else {
         unreachable!()
     };
-    run(alloc, db, number, code, frame, answers)
+    run(alloc, db, code, frame, answers)
 }
 
 /// The protocol that follows, of which `left` may still be entered. Where one is named and none is left, a note is

@@ -1,5 +1,4 @@
 ghost use Rattle.std.specs.Prelude.{◌≡◌, ◌<◌, Some, length, slice_get};
-ghost use Rattle.db_model.specs.Numbering.{names_of_protocol};
 ghost use Rattle.decode_vm.specs.Left.{StepsTo};
 ghost use Rattle.decode_vm.specs.Machine.{place_behind};
 ghost use Rattle.pdl_code.specs.Does.{target, unless_so};
@@ -8,10 +7,10 @@ ghost use Rattle.decode_vm.specs.declared.machine.Mode.TheVariants.{At};
 
 use crate::machine::{Machine, Mode};
 use crate::values::{evaluate, evaluate_number, protocol_of};
-use db_model::{Answers, CheckedDb, Expr, NoMemory, STAMP_END, Way};
+use db_model::{Answers, CheckedDb, NoMemory, STAMP_END, Way};
 use encap::choose;
-use pdl_code::{ProtoCode, Ranges};
-use sqlite_items::Items;
+use expr_code::ExprCode;
+use pdl_code::{Choice, ProtoCode};
 use std::alloc::Global;
 
 /// The place so many operations behind the next one, at most the end of the code.
@@ -26,10 +25,9 @@ pub fn behind(code: &ProtoCode, pc: usize, to: usize) -> usize
 pub fn test<A: Answers>(
     alloc: Global,
     db: &CheckedDb,
-    protocol: u16,
     code: &ProtoCode,
     pc: usize,
-    value: &Expr,
+    value: &ExprCode,
     to: usize,
     m: &mut Machine,
     answers: &mut A,
@@ -39,9 +37,9 @@ pub fn test<A: Answers>(
     requires mode { m.old.mode ≡ At pc }
     requires stands { slice_get code.now.ops pc ≡ Some (Test value.now to) }
     ensures database { A.database answers.new ≡ db.now }
-    ensures moves { StepsTo db.now (names_of_protocol db.now protocol) code.now m.old (A.content answers.old) (A.told answers.old) result m.new (A.content answers.new) (A.told answers.new) }
+    ensures moves { StepsTo db.now code.now m.old (A.content answers.old) (A.told answers.old) result m.new (A.content answers.new) (A.told answers.new) }
 {
-    match evaluate_number(alloc, db, protocol, value, m, answers)? {
+    match evaluate_number(alloc, db, value, m, answers)? {
         Some(v) => {
             m.mode = Mode::At(behind(code, pc, skipped(v, to)));
             Ok(())
@@ -61,26 +59,23 @@ fn skipped(v: u32, to: usize) -> usize
 pub fn switch<A: Answers>(
     alloc: Global,
     db: &CheckedDb,
-    protocol: u16,
     code: &ProtoCode,
     pc: usize,
-    value: &Expr,
-    ranges: &Ranges,
-    targets: &Items<usize>,
-    otherwise: usize,
+    value: &ExprCode,
+    choice: &Choice,
     m: &mut Machine,
     answers: &mut A,
 ) -> Result<(), NoMemory>
     requires database { A.database answers.old ≡ db.now }
     requires time { m.old.frame.env.packet.stamp < STAMP_END }
     requires mode { m.old.mode ≡ At pc }
-    requires stands { slice_get code.now.ops pc ≡ Some (Switch value.now ranges.now targets.now otherwise) }
+    requires stands { slice_get code.now.ops pc ≡ Some (Switch value.now choice.now) }
     ensures database { A.database answers.new ≡ db.now }
-    ensures moves { StepsTo db.now (names_of_protocol db.now protocol) code.now m.old (A.content answers.old) (A.told answers.old) result m.new (A.content answers.new) (A.told answers.new) }
+    ensures moves { StepsTo db.now code.now m.old (A.content answers.old) (A.told answers.old) result m.new (A.content answers.new) (A.told answers.new) }
 {
-    match evaluate_number(alloc, db, protocol, value, m, answers)? {
+    match evaluate_number(alloc, db, value, m, answers)? {
         Some(v) => {
-            m.mode = Mode::At(behind(code, pc, target(ranges, targets, otherwise, v)));
+            m.mode = Mode::At(behind(code, pc, target(choice, v)));
             Ok(())
         }
         None => Ok(()),
@@ -88,15 +83,15 @@ pub fn switch<A: Answers>(
 }
 
 /// How many operations a switch skips.
-fn target(ranges: &Ranges, targets: &Items<usize>, otherwise: usize, v: u32) -> usize
-    ensures { result ≡ target ranges.now targets.now otherwise v }
+fn target(choice: &Choice, v: u32) -> usize
+    ensures { result ≡ target choice.now v }
 {
-    match choose(ranges.as_slice(), v) {
-        Some(place) => match targets.get(place as usize) {
+    match choose(choice.ranges.as_slice(), v) {
+        Some(place) => match choice.targets.get(place as usize) {
             Some(to) => *to,
-            None => otherwise,
+            None => choice.otherwise,
         },
-        None => otherwise,
+        None => choice.otherwise,
     }
 }
 
@@ -104,10 +99,9 @@ fn target(ranges: &Ranges, targets: &Items<usize>, otherwise: usize, v: u32) -> 
 pub fn next_proto<A: Answers>(
     alloc: Global,
     db: &CheckedDb,
-    protocol: u16,
     code: &ProtoCode,
     pc: usize,
-    value: &Expr,
+    value: &ExprCode,
     m: &mut Machine,
     answers: &mut A,
 ) -> Result<(), NoMemory>
@@ -116,9 +110,9 @@ pub fn next_proto<A: Answers>(
     requires mode { m.old.mode ≡ At pc }
     requires stands { slice_get code.now.ops pc ≡ Some (NextProto value.now) }
     ensures database { A.database answers.new ≡ db.now }
-    ensures moves { StepsTo db.now (names_of_protocol db.now protocol) code.now m.old (A.content answers.old) (A.told answers.old) result m.new (A.content answers.new) (A.told answers.new) }
+    ensures moves { StepsTo db.now code.now m.old (A.content answers.old) (A.told answers.old) result m.new (A.content answers.new) (A.told answers.new) }
 {
-    match evaluate(alloc, db, protocol, value, m, answers)? {
+    match evaluate(alloc, db, value, m, answers)? {
         Some(v) => {
             m.mode = Mode::Leaving(Way::Chose(protocol_of(&v)));
             Ok(())

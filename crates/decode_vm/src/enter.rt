@@ -1,5 +1,4 @@
 ghost use Rattle.std.specs.Prelude.{◌≡◌, ◌≤◌, ◌<◌, OnOk, Some, slice_get};
-ghost use Rattle.db_model.specs.Numbering.{names_of_protocol};
 ghost use Rattle.decode_vm.specs.Left.{StepsTo};
 ghost use Rattle.decode_vm.specs.Machine.{opened, under};
 ghost use Rattle.pdl_code.specs.declared.code.Op.TheVariants.{Loop};
@@ -8,7 +7,8 @@ ghost use Rattle.decode_vm.specs.declared.machine.Mode.TheVariants.{At};
 use crate::choose::behind;
 use crate::machine::{Again, Held, Machine, Mode};
 use crate::values::{evaluate_number, halt};
-use db_model::{Answers, CheckedDb, Expr, LoopKind, NoMemory, Nodes, Reason, STAMP_END};
+use db_model::{Answers, CheckedDb, LoopKind, NoMemory, Nodes, Reason, STAMP_END};
+use expr_code::ExprCode;
 use pdl_code::ProtoCode;
 use std::alloc::Global;
 use std::mem;
@@ -43,11 +43,10 @@ pub fn open(
 pub fn enter<A: Answers>(
     alloc: Global,
     db: &CheckedDb,
-    protocol: u16,
     code: &ProtoCode,
     pc: usize,
     kind: LoopKind,
-    value: &Expr,
+    value: &ExprCode,
     to: usize,
     m: &mut Machine,
     answers: &mut A,
@@ -58,7 +57,7 @@ pub fn enter<A: Answers>(
     requires mode { m.old.mode ≡ At pc }
     requires stands { slice_get code.now.ops pc ≡ Some (Loop kind value.now to) }
     ensures database { A.database answers.new ≡ db.now }
-    ensures moves { StepsTo db.now (names_of_protocol db.now protocol) code.now m.old (A.content answers.old) (A.told answers.old) result m.new (A.content answers.new) (A.told answers.new) }
+    ensures moves { StepsTo db.now code.now m.old (A.content answers.old) (A.told answers.old) result m.new (A.content answers.new) (A.told answers.new) }
 {
     let body = behind(code, pc, 0);
     let after = behind(code, pc, to);
@@ -68,7 +67,7 @@ pub fn enter<A: Answers>(
             m.mode = Mode::Turn { again, body, after };
             Ok(())
         }
-        LoopKind::Count => match evaluate_number(alloc, db, protocol, value, m, answers)? {
+        LoopKind::Count => match evaluate_number(alloc, db, value, m, answers)? {
             Some(left) => {
                 let again = Again::Count { left };
                 m.mode = Mode::Turn { again, body, after };
@@ -76,7 +75,7 @@ pub fn enter<A: Answers>(
             }
             None => Ok(()),
         },
-        LoopKind::Size => match evaluate_number(alloc, db, protocol, value, m, answers)? {
+        LoopKind::Size => match evaluate_number(alloc, db, value, m, answers)? {
             Some(n) => limit(n, body, after, m),
             None => Ok(()),
         },

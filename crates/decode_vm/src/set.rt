@@ -1,5 +1,4 @@
 ghost use Rattle.std.specs.Prelude.{◌≡◌, ◌<◌, Some, slice_get, slice_set};
-ghost use Rattle.db_model.specs.Numbering.{names_of_protocol};
 ghost use Rattle.decode_vm.specs.Left.{StepsTo};
 ghost use Rattle.pdl_code.specs.declared.code.Op.TheVariants.{Assign};
 ghost use Rattle.decode_vm.specs.declared.machine.Mode.TheVariants.{At};
@@ -7,7 +6,8 @@ ghost use Rattle.decode_vm.specs.declared.machine.Mode.TheVariants.{At};
 use crate::choose::behind;
 use crate::machine::{Machine, Mode};
 use crate::values::evaluate;
-use db_model::{Answers, CheckedDb, Env, Expr, NoMemory, STAMP_END, Value};
+use db_model::{Answers, CheckedDb, Env, NoMemory, STAMP_END, Value};
+use expr_code::ExprCode;
 use pdl_code::ProtoCode;
 use std::alloc::Global;
 
@@ -15,11 +15,10 @@ use std::alloc::Global;
 pub fn assign<A: Answers>(
     alloc: Global,
     db: &CheckedDb,
-    protocol: u16,
     code: &ProtoCode,
     pc: usize,
     variable: usize,
-    value: &Expr,
+    value: &ExprCode,
     m: &mut Machine,
     answers: &mut A,
 ) -> Result<(), NoMemory>
@@ -28,9 +27,9 @@ pub fn assign<A: Answers>(
     requires mode { m.old.mode ≡ At pc }
     requires stands { slice_get code.now.ops pc ≡ Some (Assign variable value.now) }
     ensures database { A.database answers.new ≡ db.now }
-    ensures moves { StepsTo db.now (names_of_protocol db.now protocol) code.now m.old (A.content answers.old) (A.told answers.old) result m.new (A.content answers.new) (A.told answers.new) }
+    ensures moves { StepsTo db.now code.now m.old (A.content answers.old) (A.told answers.old) result m.new (A.content answers.new) (A.told answers.new) }
 {
-    match evaluate(alloc, db, protocol, value, m, answers)? {
+    match evaluate(alloc, db, value, m, answers)? {
         Some(v) => {
             set_variable(&mut m.frame.env, variable, v);
             m.mode = Mode::At(behind(code, pc, 0));

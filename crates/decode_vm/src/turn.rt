@@ -1,5 +1,4 @@
 ghost use Rattle.std.specs.Prelude.{◌≡◌, ◌<◌, OnOk, slice_get};
-ghost use Rattle.db_model.specs.Numbering.{names_of_protocol};
 ghost use Rattle.decode_vm.specs.Left.{Running, StepsTo};
 ghost use Rattle.decode_vm.specs.Machine.{counted, over, restored, sized, spent, tested};
 ghost use Rattle.decode_vm.specs.declared.machine.Again.TheVariants.{While};
@@ -15,7 +14,6 @@ use std::alloc::Global;
 pub fn turn<A: Answers>(
     alloc: Global,
     db: &CheckedDb,
-    protocol: u16,
     code: &ProtoCode,
     again: Again,
     body: usize,
@@ -26,13 +24,13 @@ pub fn turn<A: Answers>(
     requires database { A.database answers.old ≡ db.now }
     requires time { m.old.frame.env.packet.stamp < STAMP_END }
     requires mode { m.old.mode ≡ Turn again body after }
-    requires running { Running db.now (names_of_protocol db.now protocol) code.now m.old (A.content answers.old) (A.told answers.old) }
+    requires running { Running db.now code.now m.old (A.content answers.old) (A.told answers.old) }
     ensures database { A.database answers.new ≡ db.now }
-    ensures moves { StepsTo db.now (names_of_protocol db.now protocol) code.now m.old (A.content answers.old) (A.told answers.old) result m.new (A.content answers.new) (A.told answers.new) }
+    ensures moves { StepsTo db.now code.now m.old (A.content answers.old) (A.told answers.old) result m.new (A.content answers.new) (A.told answers.new) }
 {
     match again {
         Again::Count { left } => count(left, body, after, m),
-        Again::While { at } => test(alloc, db, protocol, code, at, body, after, m, answers),
+        Again::While { at } => test(alloc, db, code, at, body, after, m, answers),
         Again::Size { old } => fill(old, body, after, m),
     }
 }
@@ -63,7 +61,6 @@ fn fill(old: u32, body: usize, after: usize, m: &mut Machine) -> Result<(), NoMe
 fn test<A: Answers>(
     alloc: Global,
     db: &CheckedDb,
-    protocol: u16,
     code: &ProtoCode,
     at: usize,
     body: usize,
@@ -74,14 +71,14 @@ fn test<A: Answers>(
     requires database { A.database answers.old ≡ db.now }
     requires time { m.old.frame.env.packet.stamp < STAMP_END }
     requires mode { m.old.mode ≡ Turn (While at) body after }
-    requires running { Running db.now (names_of_protocol db.now protocol) code.now m.old (A.content answers.old) (A.told answers.old) }
+    requires running { Running db.now code.now m.old (A.content answers.old) (A.told answers.old) }
     ensures database { A.database answers.new ≡ db.now }
-    ensures moves { StepsTo db.now (names_of_protocol db.now protocol) code.now m.old (A.content answers.old) (A.told answers.old) result m.new (A.content answers.new) (A.told answers.new) }
+    ensures moves { StepsTo db.now code.now m.old (A.content answers.old) (A.told answers.old) result m.new (A.content answers.new) (A.told answers.new) }
 {
     let Some(Op::Loop { value, .. }) = code.ops.get(at) else {
         unreachable!()
     };
-    match evaluate_number(alloc, db, protocol, value, m, answers)? {
+    match evaluate_number(alloc, db, value, m, answers)? {
         Some(v) => go_on(v, at, body, after, m),
         None => Ok(()),
     }

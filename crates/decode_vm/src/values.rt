@@ -1,12 +1,13 @@
 ghost use Rattle.std.specs.Prelude.{◌≡◌, ◌<◌, OnOk};
-ghost use Rattle.db_model.specs.Elements.{number};
-ghost use Rattle.db_model.specs.Expression.{num, proto, val};
-ghost use Rattle.db_model.specs.Numbering.{names_of_protocol};
+ghost use Rattle.db_model.specs.Expression.{num, proto};
 ghost use Rattle.decode_vm.specs.Machine.{halted};
 ghost use Rattle.decode_vm.specs.Values.{Settled, Valued, numbered};
+ghost use Rattle.expr_code.specs.Meaning.{code_val};
+ghost use Rattle.pdl_code.specs.Does.{number};
 
 use crate::machine::{Machine, Mode};
-use db_model::{Answers, CheckedDb, Expr, NoMemory, Node, Reason, STAMP_END, Value, Way};
+use db_model::{Answers, CheckedDb, NoMemory, Node, Reason, STAMP_END, Value, Way};
+use expr_code::ExprCode;
 use expr_eval::{EvalEnd, eval};
 use std::alloc::Global;
 
@@ -34,21 +35,20 @@ pub fn settle<T: Drop>(m: &mut Machine, value: Result<T, EvalEnd>) -> Result<Opt
     }
 }
 
-/// The value of an expression in the protocol of this number, as in `settle`.
+/// The value of the code of an expression, as in `settle`.
 pub fn evaluate<A: Answers>(
     alloc: Global,
     db: &CheckedDb,
-    protocol: u16,
-    e: &Expr,
+    code: &ExprCode,
     m: &mut Machine,
     answers: &mut A,
 ) -> Result<Option<Value>, NoMemory>
     requires database { A.database answers.old ≡ db.now }
     requires time { m.old.frame.env.packet.stamp < STAMP_END }
     ensures database { A.database answers.new ≡ db.now }
-    ensures value { Valued db.now (val db.now (names_of_protocol db.now protocol) e.now) m.old (A.content answers.old) (A.told answers.old) result m.new (A.content answers.new) (A.told answers.new) }
+    ensures value { Valued db.now (code_val db.now code.now) m.old (A.content answers.old) (A.told answers.old) result m.new (A.content answers.new) (A.told answers.new) }
 {
-    let value = eval(alloc, e, db, protocol, &mut m.frame.env, answers);
+    let value = eval(alloc, code, db, &mut m.frame.env, answers);
     settle(m, value)
 }
 
@@ -56,17 +56,16 @@ pub fn evaluate<A: Answers>(
 pub fn evaluate_number<A: Answers>(
     alloc: Global,
     db: &CheckedDb,
-    protocol: u16,
-    e: &Expr,
+    code: &ExprCode,
     m: &mut Machine,
     answers: &mut A,
 ) -> Result<Option<u32>, NoMemory>
     requires database { A.database answers.old ≡ db.now }
     requires time { m.old.frame.env.packet.stamp < STAMP_END }
     ensures database { A.database answers.new ≡ db.now }
-    ensures value { Valued db.now (number db.now (names_of_protocol db.now protocol) e.now) m.old (A.content answers.old) (A.told answers.old) result m.new (A.content answers.new) (A.told answers.new) }
+    ensures value { Valued db.now (number db.now code.now) m.old (A.content answers.old) (A.told answers.old) result m.new (A.content answers.new) (A.told answers.new) }
 {
-    let value = eval(alloc, e, db, protocol, &mut m.frame.env, answers);
+    let value = eval(alloc, code, db, &mut m.frame.env, answers);
     settle(m, as_number(value))
 }
 
