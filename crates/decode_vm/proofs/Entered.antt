@@ -33,11 +33,9 @@ module _ (db : Database) (code : ProtoCode) where
   steps_by m x n c l (Ok a) h e = subst (λ y. Moves db code m c l y c l) (sym e) h
   steps_by m x n c l (Err f) h e = refuses_here db code m n f c l
 
-  pub while_begun : (pc to body after : ℕ) (value : ExprCode) (m : Machine) (c : Session) (l : Option Log) → m.mode ≡ mode.At pc → slice_get code.ops pc ≡ Some (Loop kind.While value to) → body ≡ place_behind code pc 0 → after ≡ place_behind code pc to
-      → Moves db code m c l (in_mode (mode.Turn (again.While pc) body after) m) c l
-  while_begun pc to body after value m c l e f g h =
-      subst (λ x. Moves db code m c l (in_mode (mode.Turn (again.While pc) x after) m) c l) (sym g)
-      (subst (λ x. Moves db code m c l (in_mode (mode.Turn (again.While pc) (place_behind code pc 0) x) m) c l) (sym h) (moves_while db code pc to value m c l e (get_within code.ops pc (Loop kind.While value to) f) f))
+  pub while_begun : (pc to : ℕ) (value : ExprCode) (m n : Machine) (c : Session) (l : Option Log) → m.mode ≡ mode.At pc → slice_get code.ops pc ≡ Some (Loop kind.While value to)
+      → n ≡ in_mode (mode.Turn (again.While pc) (place_behind code pc 0) (place_behind code pc to)) m → Moves db code m c l n c l
+  while_begun pc to value m n c l e f g = subst (λ y. Moves db code m c l y c l) (sym g) (moves_while db code pc to value m c l e (get_within code.ops pc (Loop kind.While value to) f) f)
 
   module _ (m o : Machine) (c : Session) (l : Option Log) (c' : Session) (l' : Option Log) where
     pub count_begun : (pc to body after v : ℕ) (x : Option ℕ) (value : ExprCode) → m.mode ≡ mode.At pc → slice_get code.ops pc ≡ Some (Loop kind.Count value to) → body ≡ place_behind code pc 0 → after ≡ place_behind code pc to → x ≡ Some v → Valued db (number db value) m c l (Ok x) o c' l'

@@ -4,7 +4,8 @@ ghost use Rattle.db_model.specs.Expression.{asks, buf, declared_or_first, keys_f
 ghost use Rattle.db_model.specs.Over.{point};
 ghost use Rattle.db_model.specs.declared.question.Question.TheVariants.{Add};
 ghost use Rattle.db_model.specs.declared.tree.Reason.TheVariants.{DataSize, KeySize};
-ghost use Rattle.decode_vm.specs.Left.{AllFit, Running, StepsTo};
+ghost use Rattle.decode_vm.specs.Left.{AllFit};
+ghost use Rattle.decode_vm.specs.Program.{IsRunning, Steps};
 ghost use Rattle.decode_vm.specs.declared.machine.Mode.TheVariants.{At};
 ghost use Rattle.expr_eval.specs.Evaluates.{Evaluates, Gave, itself};
 ghost use Rattle.expr_code.specs.Meaning.{code_val};
@@ -14,6 +15,7 @@ ghost use Rattle.pdl_code.specs.declared.code.Op.TheVariants.{Update};
 use crate::choose::behind;
 use crate::machine::{Machine, Mode};
 use crate::masks::masks;
+use crate::program::Program;
 use crate::values::{number_of, protocol_of, settle};
 use db_model::{
     Answer, Answers, Bytes, CheckedDb, ColumnDecl, Env, KeyDecl, Keys, MOST_PROTOCOLS, NewEntry,
@@ -21,31 +23,29 @@ use db_model::{
 };
 use expr_code::ExprCode;
 use expr_eval::{EvalEnd, eval};
-use pdl_code::{KeyCode, ProtoCode, UpdateCode};
+use pdl_code::{KeyCode, UpdateCode};
 use std::alloc::Global;
 
 /// Adds an entry to a table.
 pub fn add_entry<A: Answers>(
-    alloc: Global,
-    db: &CheckedDb,
-    code: &ProtoCode,
+    program: &Program<'_>,
     pc: usize,
     update: &UpdateCode,
     m: &mut Machine,
     answers: &mut A,
 ) -> Result<(), NoMemory>
-    requires database { A.database answers.old ≡ db.now }
+    requires database { A.database answers.old ≡ program.now.db.now }
     requires time { m.old.frame.env.packet.stamp < STAMP_END }
     requires mode { m.old.mode ≡ At pc }
-    requires stands { slice_get code.now.ops pc ≡ Some (Update update.now) }
-    requires running { Running db.now code.now m.old (A.content answers.old) (A.told answers.old) }
-    ensures database { A.database answers.new ≡ db.now }
-    ensures moves { StepsTo db.now code.now m.old (A.content answers.old) (A.told answers.old) result m.new (A.content answers.new) (A.told answers.new) }
+    requires stands { slice_get program.now.code.now.ops pc ≡ Some (Update update.now) }
+    requires running { IsRunning A.content A.told program.now (m.old, answers.old) }
+    ensures database { A.database answers.new ≡ program.now.db.now }
+    ensures moves { Steps A.content A.told program.now (m.old, answers.old) result (m.new, answers.new) }
 {
-    let answer = added(alloc, db, update, &mut m.frame.env, answers);
+    let answer = added(program.alloc, program.db, update, &mut m.frame.env, answers);
     match settle(m, answer)? {
         Some(_done) => {
-            m.mode = Mode::At(behind(code, pc, 0));
+            m.mode = Mode::At(behind(program.code, pc, 0));
             Ok(())
         }
         None => Ok(()),
@@ -64,7 +64,9 @@ fn added<A: Answers>(
     requires time { env.old.packet.stamp < STAMP_END }
     requires fit { AllFit db.now (added db.now (slice_get db.now.tables update.now.table) update.now env.old) }
     ensures database { A.database answers.new ≡ db.now }
-    ensures value { Evaluates db.now (added db.now (slice_get db.now.tables update.now.table) update.now) itself (point env.old (A.content answers.old) (A.told answers.old)) result (point env.new (A.content answers.new) (A.told answers.new)) }
+    ensures value { Evaluates db.now (added db.now (slice_get db.now.tables update.now.table) update.now) itself
+        (point env.old (A.content answers.old) (A.told answers.old)) result
+        (point env.new (A.content answers.new) (A.told answers.new)) }
 {
     match db.database().tables.get(update.table) {
         Some(declared) => {
@@ -99,7 +101,10 @@ fn keys_of<A: Answers>(
     requires database { A.database answers.old ≡ db.now }
     requires time { env.old.packet.stamp < STAMP_END }
     ensures database { A.database answers.new ≡ db.now }
-    ensures value { Evaluates db.now (keys_from [] (map (λ k. k.size) sizes.now) (map (λ k. code_val db.now k.value) parts.now)) itself (point env.old (A.content answers.old) (A.told answers.old)) result (point env.new (A.content answers.new) (A.told answers.new)) }
+    ensures value { Evaluates db.now
+        (keys_from [] (map (λ k. k.size) sizes.now) (map (λ k. code_val db.now k.value) parts.now)) itself
+        (point env.old (A.content answers.old) (A.told answers.old)) result
+        (point env.new (A.content answers.new) (A.told answers.new)) }
 {
     let mut keys = Keys::new(alloc);
     for (i, part) in parts.iter().enumerate() {
@@ -150,7 +155,10 @@ fn row_of<A: Answers>(
     requires database { A.database answers.old ≡ db.now }
     requires time { env.old.packet.stamp < STAMP_END }
     ensures database { A.database answers.new ≡ db.now }
-    ensures value { Evaluates db.now (row_from (length db.now.protocols) [] columns.now (map (code_val db.now) parts.now)) itself (point env.old (A.content answers.old) (A.told answers.old)) result (point env.new (A.content answers.new) (A.told answers.new)) }
+    ensures value { Evaluates db.now
+        (row_from (length db.now.protocols) [] columns.now (map (code_val db.now) parts.now)) itself
+        (point env.old (A.content answers.old) (A.told answers.old)) result
+        (point env.new (A.content answers.new) (A.told answers.new)) }
 {
     let protocols = db.database().protocols.len();
     let mut row = Row::new(alloc);
@@ -176,7 +184,8 @@ fn data(
     protocols: usize,
 ) -> Result<Value, EvalEnd>
     requires { protocols ≤ MOST_PROTOCOLS }
-    ensures { Gave (λ v. v) (when (fits_column column.now.size (taken_as protocols column.now.ty value)) DataSize (taken_as protocols column.now.ty value)) result }
+    ensures { Gave (λ v. v) (when (fits_column column.now.size (taken_as protocols column.now.ty value)) DataSize
+        (taken_as protocols column.now.ty value)) result }
 {
     let value = taken(alloc, value, column.ty, protocols);
     if fits(&value, column.size) {
@@ -235,7 +244,9 @@ fn ask<A: Answers>(
     requires time { env.old.packet.stamp < STAMP_END }
     requires fit { AllFit (A.database answers.old) (asks (Add table entry) env.old) }
     ensures database { A.database answers.new ≡ A.database answers.old }
-    ensures value { Evaluates (A.database answers.old) (asks (Add table entry)) itself (point env.old (A.content answers.old) (A.told answers.old)) result (point env.new (A.content answers.new) (A.told answers.new)) }
+    ensures value { Evaluates (A.database answers.old) (asks (Add table entry)) itself
+        (point env.old (A.content answers.old) (A.told answers.old)) result
+        (point env.new (A.content answers.new) (A.told answers.new)) }
 {
     if env.questions == 0 {
         return Err(EvalEnd::Fault(Reason::Questions));

@@ -9,7 +9,7 @@ use Rattle.decode_vm.proofs.values.evaluate_number.Goals as goal
 
 pub returns-clause-value : goal.returns-clause-value
 returns-clause-value g c =
-    let db = c.args.db.now in
+    let db = c.args.program.now.db.now in
     let m = c.args.m.now in
     let s = point m.frame.env (g.A.Answers.content c.args.answers.now) (g.A.Answers.told c.args.answers.now) in
     let n = point c.eval-value.new.env (g.A.Answers.content c.eval-value.new.answers) (g.A.Answers.told c.eval-value.new.answers) in
