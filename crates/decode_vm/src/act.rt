@@ -50,21 +50,30 @@ pub fn act<A: Answers>(
             Ok(())
         }
         Op::Field { number, kind } => {
-            place_field(program.alloc, *number, kind.get(), 0, behind(program.code, pc, 0), m)
+            place_field(
+                program.alloc,
+                *number,
+                kind.get(),
+                0,
+                behind(program.code, pc, 0),
+                m,
+            )
         }
-        Op::SizedField { number, size } => {
-            sized_field(program, pc, *number, size, m, answers)
-        }
-        Op::Assign { variable, value } => {
-            assign(program, pc, *variable, value, m, answers)
-        }
+        Op::SizedField { number, size } => { sized_field(program, pc, *number, size, m, answers) }
+        Op::Assign { variable, value } => { assign(program, pc, *variable, value, m, answers) }
         Op::Update(update) => add_entry(program, pc, update, m, answers),
         Op::NextProto { value } => next_proto(program, pc, value, m, answers),
         Op::Test { value, to } => test(program, pc, value, *to, m, answers),
         Op::Switch { value, choice } => switch(program, pc, value, choice, m, answers),
         Op::Block { number, after } => {
             let body = behind(program.code, pc, 0);
-            open(program.alloc, *number, body, behind(program.code, pc, *after), m)
+            open(
+                program.alloc,
+                *number,
+                body,
+                behind(program.code, pc, *after),
+                m,
+            )
         }
         Op::Include { block } => include(program, pc, *block, m),
         Op::Loop { kind, value, after } => match kind {
@@ -105,12 +114,7 @@ fn sized_field<A: Answers>(
 }
 
 /// Begins the named block at this place of the protocol.
-fn include(
-    program: &Program<'_>,
-    pc: usize,
-    block: usize,
-    m: &mut Machine,
-) -> Result<(), NoMemory>
+fn include(program: &Program<'_>, pc: usize, block: usize, m: &mut Machine) -> Result<(), NoMemory>
     requires { IsSome (slice_get program.now.code.now.blocks block) }
     ensures { (start : BlockStart) → slice_get program.now.code.now.blocks block ≡ Some start
         → OnOk result (m.new ≡ opened start.number start.at (place_behind program.now.code.now pc 0) m.old) }
@@ -118,7 +122,13 @@ fn include(
     let Some(start) = program.code.blocks.get(block) else {
         unreachable!()
     };
-    open(program.alloc, start.number, start.at, behind(program.code, pc, 0), m)
+    open(
+        program.alloc,
+        start.number,
+        start.at,
+        behind(program.code, pc, 0),
+        m,
+    )
 }
 
 /// How a list ends that leaves a turn or a loop.

@@ -78,7 +78,9 @@ fn element(
             write_test(alloc, db, protocol, expr, start, middle, ops)?;
             Ok(to)
         }
-        Element::Assign { name, value, .. } => leaf::assign(alloc, db, protocol, name, value, at, ops),
+        Element::Assign { name, value, .. } => leaf::assign(
+            alloc, db, protocol, name, value, at, ops,
+        ),
         Element::Update {
             table,
             validity,

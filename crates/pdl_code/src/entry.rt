@@ -18,12 +18,7 @@ fn mask(of: &Option<Bytes>) -> Result<Option<Bytes>, NoMemory>
     }
 }
 
-fn key(
-    alloc: Global,
-    db: &CheckedDb,
-    protocol: u16,
-    of: &UpdateKey,
-) -> Result<KeyCode, NoMemory>
+fn key(alloc: Global, db: &CheckedDb, protocol: u16, of: &UpdateKey) -> Result<KeyCode, NoMemory>
     ensures { IfOk result (λ c. c ≡ key_code db.now protocol of.now) }
 {
     let value = code_of(alloc, &of.value, db, protocol)?;
