@@ -15,7 +15,7 @@ use Rattle.db_model.specs.declared.tree.Reason.TheVariants as reason
 use Rattle.db_model.specs.declared.tree.Proto.{Proto}
 use Rattle.db_model.specs.Chain.{protocol_run, elements_of, entered, chain, follow, ends, proto_from, onward, is_at_end}
 use Rattle.db_model.specs.Elements.{list}
-use Rattle.db_model.specs.Numbering.{none, names_at, field_names, names_of_protocol}
+use Rattle.db_model.specs.Numbering.{none}
 use Rattle.db_model.specs.Over.{point, Ends, Leads}
 use Rattle.db_model.specs.Questions.{Asks, Gives, and_then, Log, Step, ◌then◌}
 use Rattle.db_model.specs.Runs.{Went}
@@ -55,20 +55,20 @@ module _ (db : Database) (all : Code) (is : IsCodeOf db all) (q : ℕ) where
   code_there p e n = let h = is q p e in no_code h.code (slice_get all.protocols q) h.stands n
 
   module _ (p : Protocol) (declared : slice_get db.protocols q ≡ Some p) (code : ProtoCode) (stands : slice_get all.protocols q ≡ Some code) (z : Frame) (ps : List (ℕ × List ℕ)) (none_yet : ps ≡ []) (f : AllFit db (from_here db q z)) where
-    does_it : Does db (names_of_protocol db q) code 0 (protocol_run db (slice_get db.protocols q))
+    does_it : Does db code 0 (protocol_run db (slice_get db.protocols q))
     does_it =
         let h = is q p declared in
         let c : h.code ≡ code = same_code h.code code (slice_get all.protocols q) h.stands stands in
-        let d = subst (λ (x : ProtoCode). Does db (field_names p) x 0 (list db p (elements_of p) none)) c h.does in
-        subst (λ (x : Option Protocol). Does db (names_at x) code 0 (protocol_run db x)) (sym declared) d
+        let d = subst (λ (x : ProtoCode). Does db x 0 (list db p (elements_of p) none)) c h.does in
+        subst (λ (x : Option Protocol). Does db code 0 (protocol_run db x)) (sym declared) d
 
     fit_it : AllFit db (protocol_run db (slice_get db.protocols q) (entering ps z))
     fit_it = subst (λ (y : Frame). AllFit db (protocol_run db (slice_get db.protocols q) y)) (sym (entering_is ps z none_yet)) f
 
-    pub has_run : HasRun db (names_of_protocol db q) code (entering ps z)
+    pub has_run : HasRun db code (entering ps z)
     has_run = record { run = protocol_run db (slice_get db.protocols q); does = does_it; fit = fit_it }
 
-    pub protocol_ends : (c : Session) (l : Option Log) (o : Result Ended NoMemory) (c' : Session) (l' : Option Log) → RunEnds db (names_of_protocol db q) code (entering ps z) c l o c' l' → ProtocolEnds db q z c l o c' l'
+    pub protocol_ends : (c : Session) (l : Option Log) (o : Result Ended NoMemory) (c' : Session) (l' : Option Log) → RunEnds db code (entering ps z) c l o c' l' → ProtocolEnds db q z c l o c' l'
     protocol_ends c l (Ok e) c' l' h =
         let x = subst (λ (y : Frame). Ends db z.env.packet.stamp (protocol_run db (slice_get db.protocols q)) (point y c l) (Ok (e.way, e.nodes)) (point e.frame c' l')) (entering_is ps z none_yet) (h (protocol_run db (slice_get db.protocols q)) does_it fit_it) in
         record { ends = x.ends }

@@ -2,17 +2,14 @@
 use Rattle.std.specs.Prelude.{◌≡◌, ℕ, List, [], slice_get, Option, Some, Result, Ok}
 use Rattle.std.proofs.Common.{refl, sym, ap, subst, ◌∙◌, append-nil}
 use Rattle.db_model.specs.declared.database.Database.{Database}
-use Rattle.db_model.specs.declared.element.UpdateKey.{UpdateKey}
-use Rattle.db_model.specs.declared.element.UpdateValue.{UpdateValue}
-use Rattle.db_model.specs.declared.entry.Validity.{Validity}
+use Rattle.pdl_code.specs.declared.code.UpdateCode.{UpdateCode}
 use Rattle.db_model.specs.declared.env.Env.{Env}
 use Rattle.db_model.specs.declared.env.Frame.{Frame}
 use Rattle.db_model.specs.declared.env.Way.TheVariants.{Next}
 use Rattle.db_model.specs.declared.tree.Node.{Node}
 use Rattle.db_model.specs.declared.tree.Reason.{Reason}
-use Rattle.db_model.specs.Elements.{added}
+use Rattle.pdl_code.specs.Does.{added}
 use Rattle.db_model.specs.Expression.{Eval, ◌>>=◌}
-use Rattle.db_model.specs.Names.{Text}
 use Rattle.db_model.specs.Over.{Point}
 use Rattle.db_model.specs.Questions.{Gives, Log, ◌then◌, on_ok}
 use Rattle.db_model.specs.Runs.{Run, next, go, within, or_halt, evaluated}
@@ -42,13 +39,13 @@ pub fit_value : {A B : Type 0} (db : Database) (p : Eval A) (g : A → Eval B) (
 fit_value {A} {B} db p g m n v h e =
     subst (λ (r : Result A Reason × Env). AllFit db (on_ok g r.0 r.1)) e.ends.ends.gave (fit_then db m.held.packet.stamp (p m.held) (λ r. on_ok g r.0 r.1) m.content h)
 
-module _ (db : Database) (fields : List Text) (code : ProtoCode) where
-  pub fit_update : (pc table : ℕ) (validity : Validity) (keep hit : Option ℕ) (keys : List UpdateKey) (row : List UpdateValue) (m : Machine) (c : Session) (l : Option Log) → m.mode ≡ mode.At pc → slice_get code.ops pc ≡ Some (Update table validity keep hit keys row) → Running db fields code m c l
-      → AllFit db (added db fields (slice_get db.tables table) table validity keep hit keys row m.frame.env)
-  fit_update pc table validity keep hit keys row m c l e s r =
+module _ (db : Database) (code : ProtoCode) where
+  pub fit_update : (pc : ℕ) (u : UpdateCode) (m : Machine) (c : Session) (l : Option Log) → m.mode ≡ mode.At pc → slice_get code.ops pc ≡ Some (Update u) → Running db code m c l
+      → AllFit db (added db (slice_get db.tables u.table) u m.frame.env)
+  fit_update pc u m c l e s r =
       let a = r.left in
-      let q = added db fields (slice_get db.tables table) table validity keep hit keys row in
-      let g : DoesPlain db fields code (Update table validity keep hit keys row) pc a.run = invert db fields code (Update table validity keep hit keys row) pc a.run s (subst (λ y. Doing db fields code m.frame.env.turns y a.run) e a.doing) in
+      let q = added db (slice_get db.tables u.table) u in
+      let g : DoesPlain db code (Update u) pc a.run = invert db code (Update u) pc a.run s (subst (λ y. Doing db code m.frame.env.turns y a.run) e a.doing) in
       fit_evaluation db q (λ x. next) g.rest m.nodes a.rest m.frame (subst (λ (p : Run). AllFit db ((p then onto m.nodes a.rest) m.frame)) g.is a.ahead.fit)
 
   -- nothing but the place changes

@@ -7,7 +7,6 @@ use Rattle.db_model.specs.declared.env.Way.{Way}
 use Rattle.db_model.specs.declared.no_memory.NoMemory.{NoMemory}
 use Rattle.db_model.specs.declared.packet.Packet.{Packet}
 use Rattle.db_model.specs.declared.tree.Node.{Node}
-use Rattle.db_model.specs.Names.{Text}
 use Rattle.db_model.specs.Over.{Point, point, Ends}
 use Rattle.db_model.specs.Questions.{Asks, Log, pure, ◌then◌}
 use Rattle.db_model.specs.Runs.{Went, Run}
@@ -60,19 +59,19 @@ is_placed m s = record { origin = s.origin; position = s.position; limit = risin
 
 -- ---- steps
 
-module _ (db : Database) (fields : List Text) (code : ProtoCode) where
-  pub step_refused : (m : Machine) (c : Session) (l : Option Log) (o : Result (Option Way) NoMemory) (e : NoMemory) (n : Machine) (c' : Session) (l' : Option Log) → o ≡ Err e → Refuses db fields code m c l e n c' l' → Stepped db fields code m c l o n c' l'
-  step_refused m c l o e n c' l' h r = subst (λ (x : Result (Option Way) NoMemory). Stepped db fields code m c l x n c' l') (sym h) r
+module _ (db : Database) (code : ProtoCode) where
+  pub step_refused : (m : Machine) (c : Session) (l : Option Log) (o : Result (Option Way) NoMemory) (e : NoMemory) (n : Machine) (c' : Session) (l' : Option Log) → o ≡ Err e → Refuses db code m c l e n c' l' → Stepped db code m c l o n c' l'
+  step_refused m c l o e n c' l' h r = subst (λ (x : Result (Option Way) NoMemory). Stepped db code m c l x n c' l') (sym h) r
 
-  pub step_closed : (w : Way) (m : Machine) (c : Session) (l : Option Log) (o : Result (Option Way) NoMemory) (n : Machine) → m.mode ≡ mode.Leaving w → Closed w m o n → Stepped db fields code m c l o n c l
-  step_closed w m c l (Ok None) n e x = subst (λ (y : Machine). Moves db fields code m c l y c l) (sym x.3) (moves_resumed db fields code x.0 w m x.1 c l e x.2)
+  pub step_closed : (w : Way) (m : Machine) (c : Session) (l : Option Log) (o : Result (Option Way) NoMemory) (n : Machine) → m.mode ≡ mode.Leaving w → Closed w m o n → Stepped db code m c l o n c l
+  step_closed w m c l (Ok None) n e x = subst (λ (y : Machine). Moves db code m c l y c l) (sym x.3) (moves_resumed db code x.0 w m x.1 c l e x.2)
   step_closed w m c l (Ok (Some v)) n e x = record {
     ends = λ t r s a.
         subst (λ (y : Machine). Ends db t r s (Ok (v, y.nodes)) (point y.frame c l)) (sym x.2)
-        (ended db fields code t r s v m c l (e ∙ ap (λ (y : Way). mode.Leaving y) (sym x.0)) x.1 a);
+        (ended db code t r s v m c l (e ∙ ap (λ (y : Way). mode.Leaving y) (sym x.0)) x.1 a);
     frame = ap (λ (y : Machine). y.frame) x.2;
   }
-  step_closed w m c l (Err f) n e x = refuses_here db fields code m n f c l
+  step_closed w m c l (Err f) n e x = refuses_here db code m n f c l
 
   -- ---- the loop
 
@@ -80,9 +79,9 @@ module _ (db : Database) (fields : List Text) (code : ProtoCode) where
   pub record SoFar (z : Frame) (c : Session) (l : Option Log) (m : Machine) (c' : Session) (l' : Option Log) : Type 0 where
     pub packet : m.frame.env.packet ≡ z.env.packet
     pub sound : Sound m
-    pub goes : (t : ℕ) (w : Run) (s : Point Frame) → Left db fields code t w s (first_of z) c l → Left db fields code t w s m c' l'
+    pub goes : (t : ℕ) (w : Run) (s : Point Frame) → Left db code t w s (first_of z) c l → Left db code t w s m c' l'
 
-  left_first : (r : Run) (z : Frame) (c : Session) (l : Option Log) → Does db fields code 0 r → AllFit db (r z) → Left db fields code z.env.packet.stamp r (point z c l) (first_of z) c l
+  left_first : (r : Run) (z : Frame) (c : Session) (l : Option Log) → Does db code 0 r → AllFit db (r z) → Left db code z.env.packet.stamp r (point z c l) (first_of z) c l
   left_first r z c l d f =
       let same : (r then onto [] pure) ≡ r = then_pure r in
       record {
@@ -108,12 +107,12 @@ module _ (db : Database) (fields : List Text) (code : ProtoCode) where
 
     module _ (m : Machine) (c' : Session) (l' : Option Log) (x : SoFar z c l m c' l') where
       -- after a step
-      module _ (o : Option Way) (n : Machine) (c'' : Session) (l'' : Option Log) (h : Stepped db fields code m c' l' (Ok o) n c'' l'') where
-        moved : o ≡ None → Moves db fields code m c' l' n c'' l''
-        moved e = subst (λ (y : Option Way). Stepped db fields code m c' l' (Ok y) n c'' l'') e h
+      module _ (o : Option Way) (n : Machine) (c'' : Session) (l'' : Option Log) (h : Stepped db code m c' l' (Ok o) n c'' l'') where
+        moved : o ≡ None → Moves db code m c' l' n c'' l''
+        moved e = subst (λ (y : Option Way). Stepped db code m c' l' (Ok y) n c'' l'') e h
 
-        finished : (w : Way) → o ≡ Some w → Finishes db fields code w m c' l' n c'' l''
-        finished w e = subst (λ (y : Option Way). Stepped db fields code m c' l' (Ok y) n c'' l'') e h
+        finished : (w : Way) → o ≡ Some w → Finishes db code w m c' l' n c'' l''
+        finished w e = subst (λ (y : Option Way). Stepped db code m c' l' (Ok y) n c'' l'') e h
 
         pub so_far_on : o ≡ None → SoFar z c l n c'' l''
         so_far_on e = let g = moved e in record { packet = g.nearer.packet ∙ x.packet; sound = g.nearer.sound x.sound; goes = λ t w s a. g.left t w s (x.goes t w s a) }
@@ -131,20 +130,20 @@ module _ (db : Database) (fields : List Text) (code : ProtoCode) where
           pub ran_placed : IsPlaced e.frame
           ran_placed = subst IsPlaced (sym same_frame) (is_placed m x.sound)
 
-          ran_here : RunEnds db fields code z c l (Ok (record { way = w; nodes = n.nodes; frame = n.frame })) c'' l''
+          ran_here : RunEnds db code z c l (Ok (record { way = w; nodes = n.nodes; frame = n.frame })) c'' l''
           ran_here r d f = (finished w is).ends z.env.packet.stamp r (point z c l) (x.goes z.env.packet.stamp r (point z c l) (left_first r z c l d f))
 
-          pub ran : RunEnds db fields code z c l (Ok e) c'' l''
-          ran = subst (λ (y : Ended). RunEnds db fields code z c l (Ok y) c'' l'') (sym made) ran_here
+          pub ran : RunEnds db code z c l (Ok e) c'' l''
+          ran = subst (λ (y : Ended). RunEnds db code z c l (Ok y) c'' l'') (sym made) ran_here
 
       pub so_far_time : (most : ℕ) → z.env.packet.stamp < most → m.frame.env.packet.stamp < most
       so_far_time most h = subst (λ (p : Packet). p.stamp < most) (sym x.packet) h
 
-      pub so_far_running : HasRun db fields code z → Running db fields code m c' l'
+      pub so_far_running : HasRun db code z → Running db code m c' l'
       so_far_running h = record { moment = z.env.packet.stamp; whole = h.run; start = point z c l; left = x.goes z.env.packet.stamp h.run (point z c l) (left_first h.run z c l h.does h.fit) }
 
-      pub run_refused : (o : Result Ended NoMemory) (e : NoMemory) (n : Machine) (c'' : Session) (l'' : Option Log) → o ≡ Err e → Refuses db fields code m c' l' e n c'' l'' → RunEnds db fields code z c l o c'' l''
-      run_refused o e n c'' l'' g h = subst (λ (y : Result Ended NoMemory). RunEnds db fields code z c l y c'' l'') (sym g) by
+      pub run_refused : (o : Result Ended NoMemory) (e : NoMemory) (n : Machine) (c'' : Session) (l'' : Option Log) → o ≡ Err e → Refuses db code m c' l' e n c'' l'' → RunEnds db code z c l o c'' l''
+      run_refused o e n c'' l'' g h = subst (λ (y : Result Ended NoMemory). RunEnds db code z c l y c'' l'') (sym g) by
         where
-          by : RunEnds db fields code z c l (Err e) c'' l''
+          by : RunEnds db code z c l (Err e) c'' l''
           by r d f y = record { ends = (h.begun z.env.packet.stamp r (point z c l) (x.goes z.env.packet.stamp r (point z c l) (left_first r z c l d f))).ends }

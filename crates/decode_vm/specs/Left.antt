@@ -3,13 +3,12 @@ use Rattle.std.specs.Prelude.{◌≡◌, ℕ, ◌<◌, ◌≤◌, true, List, []
 use Rattle.db_model.specs.declared.database.Database.{Database}
 use Rattle.db_model.specs.declared.element.LoopKind.TheVariants as kind
 use Rattle.db_model.specs.declared.env.Frame.{Frame}
-use Rattle.db_model.specs.declared.expression.Expr.{Expr}
+use Rattle.expr_code.specs.declared.code.ExprCode.{ExprCode}
 use Rattle.db_model.specs.declared.no_memory.NoMemory.{NoMemory}
 use Rattle.db_model.specs.declared.question.Answer.{Answer}
 use Rattle.db_model.specs.declared.tree.Node.{Node}
-use Rattle.db_model.specs.Elements.{number}
+use Rattle.pdl_code.specs.Does.{number}
 use Rattle.db_model.specs.Fitting.{question_fits}
-use Rattle.db_model.specs.Names.{Text}
 use Rattle.db_model.specs.Over.{Point, point, Ends, Leads}
 use Rattle.db_model.specs.Questions.{Asks, Gives, Asking, Log, pure, ◌then◌}
 use Rattle.db_model.specs.Runs.{Went, Run, leave, go, closed, turned, count, repeat, before_limit, limited}
@@ -59,17 +58,17 @@ of_loop a turns rest = (turns then ending a) then go rest
 abbrev pub after_turn : Again → Run → Run → Rest → Rest
 after_turn a turns rest k w = ((turned w.0 w.1 turns then ending a) then go rest) then k
 
-module _ (db : Database) (fields : List Text) (code : ProtoCode) where
+module _ (db : Database) (code : ProtoCode) where
   -- ---- loops
 
   -- a loop whose test stands at a place
   pub record WhileLeft (most at : ℕ) (body turns : Run) : Type 0 where
     pub left : ℕ
-    pub value : Expr
+    pub value : ExprCode
     pub after : ℕ
     pub enough : most ≤ left
     pub stands : slice_get code.ops at ≡ Some (Loop kind.While value after)
-    pub is : turns ≡ repeat left (number db fields value) body
+    pub is : turns ≡ repeat left (number db value) body
 
   pub record SizeLeft (most : ℕ) (body turns : Run) : Type 0 where
     pub left : ℕ
@@ -87,21 +86,21 @@ module _ (db : Database) (fields : List Text) (code : ProtoCode) where
     pub inner : Run
     pub turns : Run
     pub rest : Run
-    pub at_body : Does db fields code body inner
-    pub at_rest : Does db fields code after rest
+    pub at_body : Does db code body inner
+    pub at_rest : Does db code after rest
     pub left : TurnsLeft most a inner turns
 
   -- ---- the machine
 
   -- what the mode does
   abbrev pub Doing : ℕ → Mode → Run → Type 0
-  Doing most (mode.At pc) r = Does db fields code pc r
+  Doing most (mode.At pc) r = Does db code pc r
   Doing most (mode.Turn a body after) r = (g : InLoop most a body after) × (r ≡ of_loop a g.turns g.rest)
   Doing most (mode.Leaving w) r = r ≡ leave w
 
   pub record BlockHeld (n from : ℕ) (before : List Node) (after : ℕ) (k k' : Rest) : Type 0 where
     pub rest : Run
-    pub at_rest : Does db fields code after rest
+    pub at_rest : Does db code after rest
     pub is : k' ≡ after_block n from before rest k
 
   pub record LoopHeld (most : ℕ) (a : Again) (body after : ℕ) (k k' : Rest) : Type 0 where
@@ -143,15 +142,15 @@ pub record Nearer (code : ProtoCode) (m n : Machine) : Type 0 where
   pub sound : Sound m → Sound n
   pub less : cost code n < cost code m
 
-module _ (db : Database) (fields : List Text) (code : ProtoCode) where
+module _ (db : Database) (code : ProtoCode) where
   -- whatever was left is left after it
   pub record Moves (m : Machine) (c : Session) (l : Option Log) (n : Machine) (c' : Session) (l' : Option Log) : Type 0 where
-    pub left : (t : ℕ) (w : Run) (s : Point Frame) → Left db fields code t w s m c l → Left db fields code t w s n c' l'
+    pub left : (t : ℕ) (w : Run) (s : Point Frame) → Left db code t w s m c l → Left db code t w s n c' l'
     pub nearer : Nearer code m n
 
   -- memory was refused behind some first questions of whatever was left
   pub record Refuses (m : Machine) (c : Session) (l : Option Log) (e : NoMemory) (n : Machine) (c' : Session) (l' : Option Log) : Type 0 where
-    pub begun : (t : ℕ) (w : Run) (s : Point Frame) → Left db fields code t w s m c l → Ends db t w s (Err e) (point n.frame c' l')
+    pub begun : (t : ℕ) (w : Run) (s : Point Frame) → Left db code t w s m c l → Ends db t w s (Err e) (point n.frame c' l')
 
   abbrev pub StepsTo : {A : Type 0} → Machine → Session → Option Log → Result A NoMemory → Machine → Session → Option Log → Type 0
   StepsTo m c l (Ok a) n c' l' = Moves m c l n c' l'

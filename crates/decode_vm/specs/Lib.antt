@@ -4,6 +4,7 @@ pub mod Decode
 pub mod Field
 pub mod Left
 pub mod Machine
+pub mod Program
 pub mod Resume
 pub mod Run
 pub mod Sound

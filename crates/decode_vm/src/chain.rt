@@ -37,7 +37,8 @@ pub fn follow<A: Answers>(
     requires code { IsCodeOf db.now code.now }
     requires fit { AllFit db.now (chain db.now MOST_ENTERED first frame) }
     ensures database { A.database answers.new ≡ db.now }
-    ensures ends { ChainEnds db.now MOST_ENTERED first frame (A.content answers.old) (A.told answers.old) result (A.content answers.new) (A.told answers.new) }
+    ensures ends { ChainEnds db.now MOST_ENTERED first frame
+        (A.content answers.old) (A.told answers.old) result (A.content answers.new) (A.told answers.new) }
     ensures packet { IfOk result (λ e. e.frame.env.packet ≡ frame.env.packet) }
     ensures placed { IfOk result (λ e. IsPlaced e.frame) }
 {
@@ -81,7 +82,8 @@ fn protocol<A: Answers>(
     requires code { IsCodeOf db.now code.now }
     requires fit { AllFit db.now (from_here db.now number frame) }
     ensures database { A.database answers.new ≡ db.now }
-    ensures ends { ProtocolEnds db.now number frame (A.content answers.old) (A.told answers.old) result (A.content answers.new) (A.told answers.new) }
+    ensures ends { ProtocolEnds db.now number frame
+        (A.content answers.old) (A.told answers.old) result (A.content answers.new) (A.told answers.new) }
     ensures packet { IfOk result (λ e. e.frame.env.packet ≡ frame.env.packet) }
     ensures placed { IfOk result (λ e. IsPlaced e.frame) }
 {
@@ -97,7 +99,7 @@ fn protocol<A: Answers>(
     let Some(code) = code.protocols.get(number as usize) else {
         unreachable!()
     };
-    run(alloc, db, number, code, frame, answers)
+    run(alloc, db, code, frame, answers)
 }
 
 /// The protocol that follows, of which `left` may still be entered. Where one is named and none is left, a note is

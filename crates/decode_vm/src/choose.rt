@@ -1,18 +1,17 @@
 ghost use Rattle.std.specs.Prelude.{◌≡◌, ◌<◌, Some, length, slice_get};
-ghost use Rattle.db_model.specs.Numbering.{names_of_protocol};
-ghost use Rattle.decode_vm.specs.Left.{StepsTo};
+ghost use Rattle.decode_vm.specs.Program.{Steps};
 ghost use Rattle.decode_vm.specs.Machine.{place_behind};
 ghost use Rattle.pdl_code.specs.Does.{target, unless_so};
 ghost use Rattle.pdl_code.specs.declared.code.Op.TheVariants.{NextProto, Switch, Test};
 ghost use Rattle.decode_vm.specs.declared.machine.Mode.TheVariants.{At};
 
 use crate::machine::{Machine, Mode};
+use crate::program::Program;
 use crate::values::{evaluate, evaluate_number, protocol_of};
-use db_model::{Answers, CheckedDb, Expr, NoMemory, STAMP_END, Way};
+use db_model::{Answers, NoMemory, STAMP_END, Way};
 use encap::choose;
-use pdl_code::{ProtoCode, Ranges};
-use sqlite_items::Items;
-use std::alloc::Global;
+use expr_code::ExprCode;
+use pdl_code::{Choice, ProtoCode};
 
 /// The place so many operations behind the next one, at most the end of the code.
 pub fn behind(code: &ProtoCode, pc: usize, to: usize) -> usize
@@ -24,26 +23,23 @@ pub fn behind(code: &ProtoCode, pc: usize, to: usize) -> usize
 
 /// Jumps where the value is 0.
 pub fn test<A: Answers>(
-    alloc: Global,
-    db: &CheckedDb,
-    protocol: u16,
-    code: &ProtoCode,
+    program: &Program<'_>,
     pc: usize,
-    value: &Expr,
+    value: &ExprCode,
     to: usize,
     m: &mut Machine,
     answers: &mut A,
 ) -> Result<(), NoMemory>
-    requires database { A.database answers.old ≡ db.now }
+    requires database { A.database answers.old ≡ program.now.db.now }
     requires time { m.old.frame.env.packet.stamp < STAMP_END }
     requires mode { m.old.mode ≡ At pc }
-    requires stands { slice_get code.now.ops pc ≡ Some (Test value.now to) }
-    ensures database { A.database answers.new ≡ db.now }
-    ensures moves { StepsTo db.now (names_of_protocol db.now protocol) code.now m.old (A.content answers.old) (A.told answers.old) result m.new (A.content answers.new) (A.told answers.new) }
+    requires stands { slice_get program.now.code.now.ops pc ≡ Some (Test value.now to) }
+    ensures database { A.database answers.new ≡ program.now.db.now }
+    ensures moves { Steps A.content A.told program.now (m.old, answers.old) result (m.new, answers.new) }
 {
-    match evaluate_number(alloc, db, protocol, value, m, answers)? {
+    match evaluate_number(program, value, m, answers)? {
         Some(v) => {
-            m.mode = Mode::At(behind(code, pc, skipped(v, to)));
+            m.mode = Mode::At(behind(program.code, pc, skipped(v, to)));
             Ok(())
         }
         None => Ok(()),
@@ -59,28 +55,23 @@ fn skipped(v: u32, to: usize) -> usize
 
 /// Jumps to the target of the first range that holds the value.
 pub fn switch<A: Answers>(
-    alloc: Global,
-    db: &CheckedDb,
-    protocol: u16,
-    code: &ProtoCode,
+    program: &Program<'_>,
     pc: usize,
-    value: &Expr,
-    ranges: &Ranges,
-    targets: &Items<usize>,
-    otherwise: usize,
+    value: &ExprCode,
+    choice: &Choice,
     m: &mut Machine,
     answers: &mut A,
 ) -> Result<(), NoMemory>
-    requires database { A.database answers.old ≡ db.now }
+    requires database { A.database answers.old ≡ program.now.db.now }
     requires time { m.old.frame.env.packet.stamp < STAMP_END }
     requires mode { m.old.mode ≡ At pc }
-    requires stands { slice_get code.now.ops pc ≡ Some (Switch value.now ranges.now targets.now otherwise) }
-    ensures database { A.database answers.new ≡ db.now }
-    ensures moves { StepsTo db.now (names_of_protocol db.now protocol) code.now m.old (A.content answers.old) (A.told answers.old) result m.new (A.content answers.new) (A.told answers.new) }
+    requires stands { slice_get program.now.code.now.ops pc ≡ Some (Switch value.now choice.now) }
+    ensures database { A.database answers.new ≡ program.now.db.now }
+    ensures moves { Steps A.content A.told program.now (m.old, answers.old) result (m.new, answers.new) }
 {
-    match evaluate_number(alloc, db, protocol, value, m, answers)? {
+    match evaluate_number(program, value, m, answers)? {
         Some(v) => {
-            m.mode = Mode::At(behind(code, pc, target(ranges, targets, otherwise, v)));
+            m.mode = Mode::At(behind(program.code, pc, target(choice, v)));
             Ok(())
         }
         None => Ok(()),
@@ -88,37 +79,34 @@ pub fn switch<A: Answers>(
 }
 
 /// How many operations a switch skips.
-fn target(ranges: &Ranges, targets: &Items<usize>, otherwise: usize, v: u32) -> usize
-    ensures { result ≡ target ranges.now targets.now otherwise v }
+fn target(choice: &Choice, v: u32) -> usize
+    ensures { result ≡ target choice.now v }
 {
-    match choose(ranges.as_slice(), v) {
-        Some(place) => match targets.get(place as usize) {
+    match choose(choice.ranges.as_slice(), v) {
+        Some(place) => match choice.targets.get(place as usize) {
             Some(to) => *to,
-            None => otherwise,
+            None => choice.otherwise,
         },
-        None => otherwise,
+        None => choice.otherwise,
     }
 }
 
 /// Names the next protocol.
 pub fn next_proto<A: Answers>(
-    alloc: Global,
-    db: &CheckedDb,
-    protocol: u16,
-    code: &ProtoCode,
+    program: &Program<'_>,
     pc: usize,
-    value: &Expr,
+    value: &ExprCode,
     m: &mut Machine,
     answers: &mut A,
 ) -> Result<(), NoMemory>
-    requires database { A.database answers.old ≡ db.now }
+    requires database { A.database answers.old ≡ program.now.db.now }
     requires time { m.old.frame.env.packet.stamp < STAMP_END }
     requires mode { m.old.mode ≡ At pc }
-    requires stands { slice_get code.now.ops pc ≡ Some (NextProto value.now) }
-    ensures database { A.database answers.new ≡ db.now }
-    ensures moves { StepsTo db.now (names_of_protocol db.now protocol) code.now m.old (A.content answers.old) (A.told answers.old) result m.new (A.content answers.new) (A.told answers.new) }
+    requires stands { slice_get program.now.code.now.ops pc ≡ Some (NextProto value.now) }
+    ensures database { A.database answers.new ≡ program.now.db.now }
+    ensures moves { Steps A.content A.told program.now (m.old, answers.old) result (m.new, answers.new) }
 {
-    match evaluate(alloc, db, protocol, value, m, answers)? {
+    match evaluate(program, value, m, answers)? {
         Some(v) => {
             m.mode = Mode::Leaving(Way::Chose(protocol_of(&v)));
             Ok(())

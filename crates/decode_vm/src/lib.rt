@@ -14,6 +14,7 @@ mod list;
 mod machine;
 mod masks;
 mod packet;
+mod program;
 mod resume;
 mod room;
 mod set;

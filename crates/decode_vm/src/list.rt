@@ -1,11 +1,11 @@
 ghost use Rattle.std.specs.Prelude.{◌≡◌, ◌<◌, IfOk};
-ghost use Rattle.db_model.specs.Numbering.{names_of_protocol};
-ghost use Rattle.decode_vm.specs.Left.{Running};
-ghost use Rattle.decode_vm.specs.Run.{Closed, HasRun, IsPlaced, RunEnds, Stepped};
+ghost use Rattle.decode_vm.specs.Program.{IsRunning, StepsOrEnds};
+ghost use Rattle.decode_vm.specs.Run.{Closed, HasRun, IsPlaced, RunEnds};
 ghost use Rattle.decode_vm.specs.Sound.{Sound};
 
 use crate::act::act;
 use crate::machine::{Machine, Mode};
+use crate::program::Program;
 use crate::resume::resume;
 use crate::room::no_nodes;
 use crate::turn::turn;
@@ -22,12 +22,10 @@ pub struct Ended {
     pub frame: Frame,
 }
 
-/// Runs the list of the protocol of this number, from the position on. NoMemory: some first of its questions were
-/// asked.
+/// Runs the list of a protocol, from the position on. NoMemory: some first of its questions were asked.
 pub fn run<A: Answers>(
     alloc: Global,
     db: &CheckedDb,
-    protocol: u16,
     code: &ProtoCode,
     frame: Frame,
     answers: &mut A,
@@ -35,12 +33,14 @@ pub fn run<A: Answers>(
     requires database { A.database answers.old ≡ db.now }
     requires time { frame.env.packet.stamp < STAMP_END }
     requires placed { IsPlaced frame }
-    requires runs { HasRun db.now (names_of_protocol db.now protocol) code.now frame }
+    requires runs { HasRun db.now code.now frame }
     ensures database { A.database answers.new ≡ db.now }
-    ensures ends { RunEnds db.now (names_of_protocol db.now protocol) code.now frame (A.content answers.old) (A.told answers.old) result (A.content answers.new) (A.told answers.new) }
+    ensures ends { RunEnds db.now code.now frame
+        (A.content answers.old) (A.told answers.old) result (A.content answers.new) (A.told answers.new) }
     ensures packet { IfOk result (λ e. e.frame.env.packet ≡ frame.env.packet) }
     ensures placed { IfOk result (λ e. IsPlaced e.frame) }
 {
+    let program = Program { alloc, db, code };
     let mut m = Machine {
         mode: Mode::At(0),
         held: Items::new(alloc),
@@ -48,7 +48,7 @@ pub fn run<A: Answers>(
         frame,
     };
     loop {
-        if let Some(way) = step(alloc, db, protocol, code, &mut m, answers)? {
+        if let Some(way) = step(&program, &mut m, answers)? {
             return Ok(finish(way, m));
         }
     }
@@ -63,27 +63,24 @@ fn finish(way: Way, m: Machine) -> Ended
 
 /// Does what comes next. The way in which the whole list ended, where it did.
 fn step<A: Answers>(
-    alloc: Global,
-    db: &CheckedDb,
-    protocol: u16,
-    code: &ProtoCode,
+    program: &Program<'_>,
     m: &mut Machine,
     answers: &mut A,
 ) -> Result<Option<Way>, NoMemory>
-    requires database { A.database answers.old ≡ db.now }
+    requires database { A.database answers.old ≡ program.now.db.now }
     requires time { m.old.frame.env.packet.stamp < STAMP_END }
     requires sound { Sound m.old }
-    requires running { Running db.now (names_of_protocol db.now protocol) code.now m.old (A.content answers.old) (A.told answers.old) }
-    ensures database { A.database answers.new ≡ db.now }
-    ensures steps { Stepped db.now (names_of_protocol db.now protocol) code.now m.old (A.content answers.old) (A.told answers.old) result m.new (A.content answers.new) (A.told answers.new) }
+    requires running { IsRunning A.content A.told program.now (m.old, answers.old) }
+    ensures database { A.database answers.new ≡ program.now.db.now }
+    ensures steps { StepsOrEnds A.content A.told program.now (m.old, answers.old) result (m.new, answers.new) }
 {
     match m.mode {
         Mode::At(pc) => {
-            act(alloc, db, protocol, code, pc, m, answers)?;
+            act(program, pc, m, answers)?;
             Ok(None)
         }
         Mode::Turn { again, body, after } => {
-            turn(alloc, db, protocol, code, again, body, after, m, answers)?;
+            turn(program, again, body, after, m, answers)?;
             Ok(None)
         }
         Mode::Leaving(way) => close(way, m),

@@ -2,11 +2,12 @@ ghost use Rattle.std.specs.Prelude.{◌≡◌, IfOk, is_some, map, replicate, un
 ghost use Rattle.std.specs.List.{list_any};
 ghost use Rattle.db_model.specs.Elements.{filled, masks_of};
 
-use db_model::{Bytes, KeyDecl, Keys, MOST_BYTES, NoMemory, UpdateKey};
+use db_model::{Bytes, KeyDecl, Keys, MOST_BYTES, NoMemory};
+use pdl_code::KeyCode;
 use std::alloc::Global;
 
 /// The masks of keys, where one of them has one.
-pub fn masks(alloc: Global, sizes: &[KeyDecl], keys: &[UpdateKey]) -> Result<Option<Keys>, NoMemory>
+pub fn masks(alloc: Global, sizes: &[KeyDecl], keys: &[KeyCode]) -> Result<Option<Keys>, NoMemory>
     ensures { IfOk result (λ m. m ≡ masks_of (map (λ k. k.size) sizes.now) (map (λ k. k.mask) keys.now)) }
 {
     if has_mask(keys) {
@@ -16,7 +17,7 @@ pub fn masks(alloc: Global, sizes: &[KeyDecl], keys: &[UpdateKey]) -> Result<Opt
     }
 }
 
-fn has_mask(keys: &[UpdateKey]) -> bool
+fn has_mask(keys: &[KeyCode]) -> bool
     ensures { result ≡ list_any is_some (map (λ k. k.mask) keys.now) }
 {
     for key in keys {
@@ -28,7 +29,7 @@ fn has_mask(keys: &[UpdateKey]) -> bool
 }
 
 /// One mask for each size, as long as there are keys: a key that has none keeps all bits.
-fn fill(alloc: Global, sizes: &[KeyDecl], keys: &[UpdateKey]) -> Result<Keys, NoMemory>
+fn fill(alloc: Global, sizes: &[KeyDecl], keys: &[KeyCode]) -> Result<Keys, NoMemory>
     ensures { IfOk result (λ m. m ≡ filled (map (λ k. k.size) sizes.now) (map (λ k. k.mask) keys.now)) }
 {
     let mut masks = Keys::new(alloc);

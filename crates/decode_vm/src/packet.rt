@@ -28,7 +28,8 @@ pub fn decode<A: Answers, L: Ledger>(
     requires time { packet.now.stamp < STAMP_END }
     requires code { IsCodeOf db.now code.now }
     ensures database { A.database answers.new ≡ db.now }
-    ensures tree { Decodes db.now packet.now result (A.content answers.old) (A.told answers.old) (A.content answers.new) (A.told answers.new) }
+    ensures tree { Decodes db.now packet.now result
+        (A.content answers.old) (A.told answers.old) (A.content answers.new) (A.told answers.new) }
     ensures steps { steps.new ≡ steps.old + 1 }
 {
     steps.count();

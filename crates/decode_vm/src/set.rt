@@ -1,39 +1,35 @@
 ghost use Rattle.std.specs.Prelude.{◌≡◌, ◌<◌, Some, slice_get, slice_set};
-ghost use Rattle.db_model.specs.Numbering.{names_of_protocol};
-ghost use Rattle.decode_vm.specs.Left.{StepsTo};
+ghost use Rattle.decode_vm.specs.Program.{Steps};
 ghost use Rattle.pdl_code.specs.declared.code.Op.TheVariants.{Assign};
 ghost use Rattle.decode_vm.specs.declared.machine.Mode.TheVariants.{At};
 
 use crate::choose::behind;
 use crate::machine::{Machine, Mode};
+use crate::program::Program;
 use crate::values::evaluate;
-use db_model::{Answers, CheckedDb, Env, Expr, NoMemory, STAMP_END, Value};
-use pdl_code::ProtoCode;
-use std::alloc::Global;
+use db_model::{Answers, Env, NoMemory, STAMP_END, Value};
+use expr_code::ExprCode;
 
 /// Sets the variable of this number.
 pub fn assign<A: Answers>(
-    alloc: Global,
-    db: &CheckedDb,
-    protocol: u16,
-    code: &ProtoCode,
+    program: &Program<'_>,
     pc: usize,
     variable: usize,
-    value: &Expr,
+    value: &ExprCode,
     m: &mut Machine,
     answers: &mut A,
 ) -> Result<(), NoMemory>
-    requires database { A.database answers.old ≡ db.now }
+    requires database { A.database answers.old ≡ program.now.db.now }
     requires time { m.old.frame.env.packet.stamp < STAMP_END }
     requires mode { m.old.mode ≡ At pc }
-    requires stands { slice_get code.now.ops pc ≡ Some (Assign variable value.now) }
-    ensures database { A.database answers.new ≡ db.now }
-    ensures moves { StepsTo db.now (names_of_protocol db.now protocol) code.now m.old (A.content answers.old) (A.told answers.old) result m.new (A.content answers.new) (A.told answers.new) }
+    requires stands { slice_get program.now.code.now.ops pc ≡ Some (Assign variable value.now) }
+    ensures database { A.database answers.new ≡ program.now.db.now }
+    ensures moves { Steps A.content A.told program.now (m.old, answers.old) result (m.new, answers.new) }
 {
-    match evaluate(alloc, db, protocol, value, m, answers)? {
+    match evaluate(program, value, m, answers)? {
         Some(v) => {
             set_variable(&mut m.frame.env, variable, v);
-            m.mode = Mode::At(behind(code, pc, 0));
+            m.mode = Mode::At(behind(program.code, pc, 0));
             Ok(())
         }
         None => Ok(()),

@@ -1,38 +1,34 @@
 ghost use Rattle.std.specs.Prelude.{◌≡◌, ◌<◌, OnOk, slice_get};
-ghost use Rattle.db_model.specs.Numbering.{names_of_protocol};
-ghost use Rattle.decode_vm.specs.Left.{Running, StepsTo};
+ghost use Rattle.decode_vm.specs.Program.{IsRunning, Steps};
 ghost use Rattle.decode_vm.specs.Machine.{counted, over, restored, sized, spent, tested};
 ghost use Rattle.decode_vm.specs.declared.machine.Again.TheVariants.{While};
 ghost use Rattle.decode_vm.specs.declared.machine.Mode.TheVariants.{Turn};
 
 use crate::machine::{Again, Held, Machine, Mode};
+use crate::program::Program;
 use crate::values::{evaluate_number, halt};
-use db_model::{Answers, CheckedDb, LoopKind, NoMemory, Reason, STAMP_END};
-use pdl_code::{Op, ProtoCode};
-use std::alloc::Global;
+use db_model::{Answers, NoMemory, Reason, STAMP_END};
+use pdl_code::Op;
 
 /// Begins the next turn of a loop, or goes on behind the loop.
 pub fn turn<A: Answers>(
-    alloc: Global,
-    db: &CheckedDb,
-    protocol: u16,
-    code: &ProtoCode,
+    program: &Program<'_>,
     again: Again,
     body: usize,
     after: usize,
     m: &mut Machine,
     answers: &mut A,
 ) -> Result<(), NoMemory>
-    requires database { A.database answers.old ≡ db.now }
+    requires database { A.database answers.old ≡ program.now.db.now }
     requires time { m.old.frame.env.packet.stamp < STAMP_END }
     requires mode { m.old.mode ≡ Turn again body after }
-    requires running { Running db.now (names_of_protocol db.now protocol) code.now m.old (A.content answers.old) (A.told answers.old) }
-    ensures database { A.database answers.new ≡ db.now }
-    ensures moves { StepsTo db.now (names_of_protocol db.now protocol) code.now m.old (A.content answers.old) (A.told answers.old) result m.new (A.content answers.new) (A.told answers.new) }
+    requires running { IsRunning A.content A.told program.now (m.old, answers.old) }
+    ensures database { A.database answers.new ≡ program.now.db.now }
+    ensures moves { Steps A.content A.told program.now (m.old, answers.old) result (m.new, answers.new) }
 {
     match again {
         Again::Count { left } => count(left, body, after, m),
-        Again::While { at } => test(alloc, db, protocol, code, at, body, after, m, answers),
+        Again::While { at } => test(program, at, body, after, m, answers),
         Again::Size { old } => fill(old, body, after, m),
     }
 }
@@ -61,27 +57,24 @@ fn fill(old: u32, body: usize, after: usize, m: &mut Machine) -> Result<(), NoMe
 
 /// The loop stands at the place `at`.
 fn test<A: Answers>(
-    alloc: Global,
-    db: &CheckedDb,
-    protocol: u16,
-    code: &ProtoCode,
+    program: &Program<'_>,
     at: usize,
     body: usize,
     after: usize,
     m: &mut Machine,
     answers: &mut A,
 ) -> Result<(), NoMemory>
-    requires database { A.database answers.old ≡ db.now }
+    requires database { A.database answers.old ≡ program.now.db.now }
     requires time { m.old.frame.env.packet.stamp < STAMP_END }
     requires mode { m.old.mode ≡ Turn (While at) body after }
-    requires running { Running db.now (names_of_protocol db.now protocol) code.now m.old (A.content answers.old) (A.told answers.old) }
-    ensures database { A.database answers.new ≡ db.now }
-    ensures moves { StepsTo db.now (names_of_protocol db.now protocol) code.now m.old (A.content answers.old) (A.told answers.old) result m.new (A.content answers.new) (A.told answers.new) }
+    requires running { IsRunning A.content A.told program.now (m.old, answers.old) }
+    ensures database { A.database answers.new ≡ program.now.db.now }
+    ensures moves { Steps A.content A.told program.now (m.old, answers.old) result (m.new, answers.new) }
 {
-    let Some(Op::Loop { value, .. }) = code.ops.get(at) else {
+    let Some(Op::Loop { value, .. }) = program.code.ops.get(at) else {
         unreachable!()
     };
-    match evaluate_number(alloc, db, protocol, value, m, answers)? {
+    match evaluate_number(program, value, m, answers)? {
         Some(v) => go_on(v, at, body, after, m),
         None => Ok(()),
     }

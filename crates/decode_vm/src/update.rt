@@ -1,59 +1,51 @@
 ghost use Rattle.std.specs.Prelude.{◌≡◌, ◌≤◌, ◌<◌, ◌==◌, [], Some, length, map, slice_get};
-ghost use Rattle.db_model.specs.Elements;
 ghost use Rattle.db_model.specs.Elements.{fits_column, row_from};
-ghost use Rattle.db_model.specs.Expression.{asks, buf, declared_or_first, keys_from, taken_as, val, when};
-ghost use Rattle.db_model.specs.Numbering.{names_of_protocol};
+ghost use Rattle.db_model.specs.Expression.{asks, buf, declared_or_first, keys_from, taken_as, when};
 ghost use Rattle.db_model.specs.Over.{point};
 ghost use Rattle.db_model.specs.declared.question.Question.TheVariants.{Add};
 ghost use Rattle.db_model.specs.declared.tree.Reason.TheVariants.{DataSize, KeySize};
-ghost use Rattle.decode_vm.specs.Left.{AllFit, Running, StepsTo};
+ghost use Rattle.decode_vm.specs.Left.{AllFit};
+ghost use Rattle.decode_vm.specs.Program.{IsRunning, Steps};
 ghost use Rattle.decode_vm.specs.declared.machine.Mode.TheVariants.{At};
 ghost use Rattle.expr_eval.specs.Evaluates.{Evaluates, Gave, itself};
+ghost use Rattle.expr_code.specs.Meaning.{code_val};
+ghost use Rattle.pdl_code.specs.Does.{added};
 ghost use Rattle.pdl_code.specs.declared.code.Op.TheVariants.{Update};
 
 use crate::choose::behind;
 use crate::machine::{Machine, Mode};
 use crate::masks::masks;
+use crate::program::Program;
 use crate::values::{number_of, protocol_of, settle};
 use db_model::{
     Answer, Answers, Bytes, CheckedDb, ColumnDecl, Env, KeyDecl, Keys, MOST_PROTOCOLS, NewEntry,
-    NoMemory, Question, Reason, Row, STAMP_END, Ty, UpdateKey, UpdateValue, Validity, Value,
+    NoMemory, Question, Reason, Row, STAMP_END, Ty, Value,
 };
+use expr_code::ExprCode;
 use expr_eval::{EvalEnd, eval};
-use pdl_code::ProtoCode;
+use pdl_code::{KeyCode, UpdateCode};
 use std::alloc::Global;
 
-/// Adds an entry to the table of this number.
-pub fn update<A: Answers>(
-    alloc: Global,
-    db: &CheckedDb,
-    protocol: u16,
-    code: &ProtoCode,
+/// Adds an entry to a table.
+pub fn add_entry<A: Answers>(
+    program: &Program<'_>,
     pc: usize,
-    table: usize,
-    validity: Validity,
-    keep: Option<u32>,
-    hit: Option<u32>,
-    keys: &[UpdateKey],
-    row: &[UpdateValue],
+    update: &UpdateCode,
     m: &mut Machine,
     answers: &mut A,
 ) -> Result<(), NoMemory>
-    requires database { A.database answers.old ≡ db.now }
+    requires database { A.database answers.old ≡ program.now.db.now }
     requires time { m.old.frame.env.packet.stamp < STAMP_END }
     requires mode { m.old.mode ≡ At pc }
-    requires stands { slice_get code.now.ops pc ≡ Some (Update table validity keep hit keys.now row.now) }
-    requires running { Running db.now (names_of_protocol db.now protocol) code.now m.old (A.content answers.old) (A.told answers.old) }
-    ensures database { A.database answers.new ≡ db.now }
-    ensures moves { StepsTo db.now (names_of_protocol db.now protocol) code.now m.old (A.content answers.old) (A.told answers.old) result m.new (A.content answers.new) (A.told answers.new) }
+    requires stands { slice_get program.now.code.now.ops pc ≡ Some (Update update.now) }
+    requires running { IsRunning A.content A.told program.now (m.old, answers.old) }
+    ensures database { A.database answers.new ≡ program.now.db.now }
+    ensures moves { Steps A.content A.told program.now (m.old, answers.old) result (m.new, answers.new) }
 {
-    let env = &mut m.frame.env;
-    let answer = added(
-        alloc, db, protocol, table, validity, keep, hit, keys, row, env, answers,
-    );
+    let answer = added(program.alloc, program.db, update, &mut m.frame.env, answers);
     match settle(m, answer)? {
         Some(_done) => {
-            m.mode = Mode::At(behind(code, pc, 0));
+            m.mode = Mode::At(behind(program.code, pc, 0));
             Ok(())
         }
         None => Ok(()),
@@ -64,44 +56,34 @@ pub fn update<A: Answers>(
 fn added<A: Answers>(
     alloc: Global,
     db: &CheckedDb,
-    protocol: u16,
-    table: usize,
-    validity: Validity,
-    keep: Option<u32>,
-    hit: Option<u32>,
-    keys: &[UpdateKey],
-    row: &[UpdateValue],
+    update: &UpdateCode,
     env: &mut Env,
     answers: &mut A,
 ) -> Result<Answer, EvalEnd>
     requires database { A.database answers.old ≡ db.now }
     requires time { env.old.packet.stamp < STAMP_END }
-    requires fit { AllFit db.now (Elements.added db.now (names_of_protocol db.now protocol) (slice_get db.now.tables table) table validity keep hit keys.now row.now env.old) }
+    requires fit { AllFit db.now (added db.now (slice_get db.now.tables update.now.table) update.now env.old) }
     ensures database { A.database answers.new ≡ db.now }
-    ensures value { Evaluates db.now (Elements.added db.now (names_of_protocol db.now protocol) (slice_get db.now.tables table) table validity keep hit keys.now row.now) itself (point env.old (A.content answers.old) (A.told answers.old)) result (point env.new (A.content answers.new) (A.told answers.new)) }
+    ensures value { Evaluates db.now (added db.now (slice_get db.now.tables update.now.table) update.now) itself
+        (point env.old (A.content answers.old) (A.told answers.old)) result
+        (point env.new (A.content answers.new) (A.told answers.new)) }
 {
-    match db.database().tables.get(table) {
+    match db.database().tables.get(update.table) {
         Some(declared) => {
             let sizes = declared.keys.as_slice();
-            let these = keys_of(alloc, db, protocol, keys, sizes, env, answers)?;
-            let values = row_of(
-                alloc,
-                db,
-                protocol,
-                row,
-                declared.columns.as_slice(),
-                env,
-                answers,
-            )?;
+            let keys = update.keys.as_slice();
+            let these = keys_of(alloc, db, keys, sizes, env, answers)?;
+            let columns = declared.columns.as_slice();
+            let values = row_of(alloc, db, update.row.as_slice(), columns, env, answers)?;
             let entry = NewEntry {
                 keys: these,
                 masks: masks(alloc, sizes, keys)?,
-                validity,
-                keep: keep.unwrap_or(0),
-                hit: hit.unwrap_or(0),
+                validity: update.validity,
+                keep: update.keep.unwrap_or(0),
+                hit: update.hit.unwrap_or(0),
                 row: values,
             };
-            ask(table as u8, entry, env, answers)
+            ask(update.table as u8, entry, env, answers)
         }
         None => Ok(Answer::Done),
     }
@@ -111,8 +93,7 @@ fn added<A: Answers>(
 fn keys_of<A: Answers>(
     alloc: Global,
     db: &CheckedDb,
-    protocol: u16,
-    parts: &[UpdateKey],
+    parts: &[KeyCode],
     sizes: &[KeyDecl],
     env: &mut Env,
     answers: &mut A,
@@ -120,7 +101,10 @@ fn keys_of<A: Answers>(
     requires database { A.database answers.old ≡ db.now }
     requires time { env.old.packet.stamp < STAMP_END }
     ensures database { A.database answers.new ≡ db.now }
-    ensures value { Evaluates db.now (keys_from [] (map (λ k. k.size) sizes.now) (map (λ k. val db.now (names_of_protocol db.now protocol) k.value) parts.now)) itself (point env.old (A.content answers.old) (A.told answers.old)) result (point env.new (A.content answers.new) (A.told answers.new)) }
+    ensures value { Evaluates db.now
+        (keys_from [] (map (λ k. k.size) sizes.now) (map (λ k. code_val db.now k.value) parts.now)) itself
+        (point env.old (A.content answers.old) (A.told answers.old)) result
+        (point env.new (A.content answers.new) (A.told answers.new)) }
 {
     let mut keys = Keys::new(alloc);
     for (i, part) in parts.iter().enumerate() {
@@ -128,7 +112,7 @@ fn keys_of<A: Answers>(
             Some(declaration) => declaration.size,
             None => return Ok(keys),
         };
-        let value = eval(alloc, &part.value, db, protocol, env, answers)?;
+        let value = eval(alloc, &part.value, db, env, answers)?;
         keys.push(key(alloc, value, size)?)?;
     }
     if parts.len() < sizes.len() {
@@ -163,8 +147,7 @@ fn bytes_in(alloc: Global, value: Value) -> Bytes
 fn row_of<A: Answers>(
     alloc: Global,
     db: &CheckedDb,
-    protocol: u16,
-    parts: &[UpdateValue],
+    parts: &[ExprCode],
     columns: &[ColumnDecl],
     env: &mut Env,
     answers: &mut A,
@@ -172,7 +155,10 @@ fn row_of<A: Answers>(
     requires database { A.database answers.old ≡ db.now }
     requires time { env.old.packet.stamp < STAMP_END }
     ensures database { A.database answers.new ≡ db.now }
-    ensures value { Evaluates db.now (row_from (length db.now.protocols) [] columns.now (map (λ v. val db.now (names_of_protocol db.now protocol) v.value) parts.now)) itself (point env.old (A.content answers.old) (A.told answers.old)) result (point env.new (A.content answers.new) (A.told answers.new)) }
+    ensures value { Evaluates db.now
+        (row_from (length db.now.protocols) [] columns.now (map (code_val db.now) parts.now)) itself
+        (point env.old (A.content answers.old) (A.told answers.old)) result
+        (point env.new (A.content answers.new) (A.told answers.new)) }
 {
     let protocols = db.database().protocols.len();
     let mut row = Row::new(alloc);
@@ -181,7 +167,7 @@ fn row_of<A: Answers>(
             Some(column) => column,
             None => return Ok(row),
         };
-        let value = eval(alloc, &part.value, db, protocol, env, answers)?;
+        let value = eval(alloc, part, db, env, answers)?;
         row.push(data(alloc, value, column, protocols)?)?;
     }
     if parts.len() < columns.len() {
@@ -198,7 +184,8 @@ fn data(
     protocols: usize,
 ) -> Result<Value, EvalEnd>
     requires { protocols ≤ MOST_PROTOCOLS }
-    ensures { Gave (λ v. v) (when (fits_column column.now.size (taken_as protocols column.now.ty value)) DataSize (taken_as protocols column.now.ty value)) result }
+    ensures { Gave (λ v. v) (when (fits_column column.now.size (taken_as protocols column.now.ty value)) DataSize
+        (taken_as protocols column.now.ty value)) result }
 {
     let value = taken(alloc, value, column.ty, protocols);
     if fits(&value, column.size) {
@@ -257,7 +244,9 @@ fn ask<A: Answers>(
     requires time { env.old.packet.stamp < STAMP_END }
     requires fit { AllFit (A.database answers.old) (asks (Add table entry) env.old) }
     ensures database { A.database answers.new ≡ A.database answers.old }
-    ensures value { Evaluates (A.database answers.old) (asks (Add table entry)) itself (point env.old (A.content answers.old) (A.told answers.old)) result (point env.new (A.content answers.new) (A.told answers.new)) }
+    ensures value { Evaluates (A.database answers.old) (asks (Add table entry)) itself
+        (point env.old (A.content answers.old) (A.told answers.old)) result
+        (point env.new (A.content answers.new) (A.told answers.new)) }
 {
     if env.questions == 0 {
         return Err(EvalEnd::Fault(Reason::Questions));

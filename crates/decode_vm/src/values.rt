@@ -1,14 +1,16 @@
 ghost use Rattle.std.specs.Prelude.{◌≡◌, ◌<◌, OnOk};
-ghost use Rattle.db_model.specs.Elements.{number};
-ghost use Rattle.db_model.specs.Expression.{num, proto, val};
-ghost use Rattle.db_model.specs.Numbering.{names_of_protocol};
+ghost use Rattle.db_model.specs.Expression.{num, proto};
 ghost use Rattle.decode_vm.specs.Machine.{halted};
-ghost use Rattle.decode_vm.specs.Values.{Settled, Valued, numbered};
+ghost use Rattle.decode_vm.specs.Program.{HasValue};
+ghost use Rattle.decode_vm.specs.Values.{Settled, numbered};
+ghost use Rattle.expr_code.specs.Meaning.{code_val};
+ghost use Rattle.pdl_code.specs.Does.{number};
 
 use crate::machine::{Machine, Mode};
-use db_model::{Answers, CheckedDb, Expr, NoMemory, Node, Reason, STAMP_END, Value, Way};
+use crate::program::Program;
+use db_model::{Answers, NoMemory, Node, Reason, STAMP_END, Value, Way};
+use expr_code::ExprCode;
 use expr_eval::{EvalEnd, eval};
-use std::alloc::Global;
 
 /// Ends the decoding: its note is the last node of the innermost list.
 pub fn halt(m: &mut Machine, reason: Reason) -> Result<(), NoMemory>
@@ -34,39 +36,37 @@ pub fn settle<T: Drop>(m: &mut Machine, value: Result<T, EvalEnd>) -> Result<Opt
     }
 }
 
-/// The value of an expression in the protocol of this number, as in `settle`.
+/// The value of the code of an expression, as in `settle`.
 pub fn evaluate<A: Answers>(
-    alloc: Global,
-    db: &CheckedDb,
-    protocol: u16,
-    e: &Expr,
+    program: &Program<'_>,
+    code: &ExprCode,
     m: &mut Machine,
     answers: &mut A,
 ) -> Result<Option<Value>, NoMemory>
-    requires database { A.database answers.old ≡ db.now }
+    requires database { A.database answers.old ≡ program.now.db.now }
     requires time { m.old.frame.env.packet.stamp < STAMP_END }
-    ensures database { A.database answers.new ≡ db.now }
-    ensures value { Valued db.now (val db.now (names_of_protocol db.now protocol) e.now) m.old (A.content answers.old) (A.told answers.old) result m.new (A.content answers.new) (A.told answers.new) }
+    ensures database { A.database answers.new ≡ program.now.db.now }
+    ensures value { HasValue A.content A.told program.now (code_val program.now.db.now code.now)
+        (m.old, answers.old) result (m.new, answers.new) }
 {
-    let value = eval(alloc, e, db, protocol, &mut m.frame.env, answers);
+    let value = eval(program.alloc, code, program.db, &mut m.frame.env, answers);
     settle(m, value)
 }
 
 /// The same as a number.
 pub fn evaluate_number<A: Answers>(
-    alloc: Global,
-    db: &CheckedDb,
-    protocol: u16,
-    e: &Expr,
+    program: &Program<'_>,
+    code: &ExprCode,
     m: &mut Machine,
     answers: &mut A,
 ) -> Result<Option<u32>, NoMemory>
-    requires database { A.database answers.old ≡ db.now }
+    requires database { A.database answers.old ≡ program.now.db.now }
     requires time { m.old.frame.env.packet.stamp < STAMP_END }
-    ensures database { A.database answers.new ≡ db.now }
-    ensures value { Valued db.now (number db.now (names_of_protocol db.now protocol) e.now) m.old (A.content answers.old) (A.told answers.old) result m.new (A.content answers.new) (A.told answers.new) }
+    ensures database { A.database answers.new ≡ program.now.db.now }
+    ensures value { HasValue A.content A.told program.now (number program.now.db.now code.now)
+        (m.old, answers.old) result (m.new, answers.new) }
 {
-    let value = eval(alloc, e, db, protocol, &mut m.frame.env, answers);
+    let value = eval(program.alloc, code, program.db, &mut m.frame.env, answers);
     settle(m, as_number(value))
 }
 

@@ -2,13 +2,12 @@
 use Rattle.std.specs.Prelude.{◌≡◌, ℕ, ◌+◌, ◌-◌, ◌<◌, Bool, true, false, if◌then◌else◌, List, [], ◌∷◌, ◌++◌, length, take, Option, Some, None}
 use Rattle.std.proofs.Common.{refl, sym, ap, ◌∙◌, arith, get_or}
 use Rattle.std.proofs.lemmas.List.{take_more}
-use Rattle.db_model.specs.Expression.{last_of, named}
-use Rattle.db_model.specs.Names.{Text}
+use Rattle.expr_code.specs.Meaning.{is_in, last_in}
 
-module _ (fields : List Text) (name : Text) where
-  last_behind : (xs : List (ℕ × List ℕ)) (f : ℕ × List ℕ) (o : Option (List ℕ)) → last_of fields name (xs ++ f ∷ []) o ≡ (if named fields name f.0 then Some f.1 else last_of fields name xs o)
+module _ (numbers : List ℕ) where
+  last_behind : (xs : List (ℕ × List ℕ)) (f : ℕ × List ℕ) (o : Option (List ℕ)) → last_in numbers (xs ++ f ∷ []) o ≡ (if is_in numbers f.0 then Some f.1 else last_in numbers xs o)
   last_behind [] f o = refl
-  last_behind (x ∷ xs) f o = last_behind xs f (if named fields name x.0 then Some x.1 else o)
+  last_behind (x ∷ xs) f o = last_behind xs f (if is_in numbers x.0 then Some x.1 else o)
 
   taken : (xs : List (ℕ × List ℕ)) (i at : ℕ) (d : ℕ × List ℕ) → i < length xs → at ≡ length xs - 1 - i → d ≡ get_or xs at d → take (length xs - i) xs ≡ take (length xs - (i + 1)) xs ++ d ∷ []
   taken xs i at d within p e =
@@ -17,15 +16,15 @@ module _ (fields : List Text) (name : Text) where
       let there : at < length xs = omega (arith, p) in
       ap (λ (k : ℕ). take k xs) here ∙ take_more xs at d there ∙ ap (λ y. take at xs ++ y ∷ []) (sym e) ∙ ap (λ (k : ℕ). take k xs ++ d ∷ []) (sym before)
 
-  back : (xs : List (ℕ × List ℕ)) (i at : ℕ) (d : ℕ × List ℕ) (b : Bool) → i < length xs → at ≡ length xs - 1 - i → d ≡ get_or xs at d → named fields name d.0 ≡ b → last_of fields name (take (length xs - i) xs) None ≡ (if b then Some d.1 else last_of fields name (take (length xs - (i + 1)) xs) None)
+  back : (xs : List (ℕ × List ℕ)) (i at : ℕ) (d : ℕ × List ℕ) (b : Bool) → i < length xs → at ≡ length xs - 1 - i → d ≡ get_or xs at d → is_in numbers d.0 ≡ b → last_in numbers (take (length xs - i) xs) None ≡ (if b then Some d.1 else last_in numbers (take (length xs - (i + 1)) xs) None)
   back xs i at d b within p e h =
-      ap (λ l. last_of fields name l None) (taken xs i at d within p e) ∙ last_behind (take (length xs - (i + 1)) xs) d None
-      ∙ ap (λ (c : Bool). if c then Some d.1 else last_of fields name (take (length xs - (i + 1)) xs) None) h
+      ap (λ l. last_in numbers l None) (taken xs i at d within p e) ∙ last_behind (take (length xs - (i + 1)) xs) d None
+      ∙ ap (λ (c : Bool). if c then Some d.1 else last_in numbers (take (length xs - (i + 1)) xs) None) h
 
-  -- the field that has the name is the last one that has it
-  pub last_here : (xs : List (ℕ × List ℕ)) (i at : ℕ) (d : ℕ × List ℕ) → i < length xs → at ≡ length xs - 1 - i → d ≡ get_or xs at d → named fields name d.0 ≡ true → last_of fields name (take (length xs - i) xs) None ≡ Some d.1
+  -- the field that has one of the numbers is the last one that has one
+  pub last_here : (xs : List (ℕ × List ℕ)) (i at : ℕ) (d : ℕ × List ℕ) → i < length xs → at ≡ length xs - 1 - i → d ≡ get_or xs at d → is_in numbers d.0 ≡ true → last_in numbers (take (length xs - i) xs) None ≡ Some d.1
   last_here xs i at d within p e h = back xs i at d true within p e h
 
   -- one that hasn't is left out
-  pub last_before : (xs : List (ℕ × List ℕ)) (i at : ℕ) (d : ℕ × List ℕ) → i < length xs → at ≡ length xs - 1 - i → d ≡ get_or xs at d → named fields name d.0 ≡ false → last_of fields name (take (length xs - i) xs) None ≡ last_of fields name (take (length xs - (i + 1)) xs) None
+  pub last_before : (xs : List (ℕ × List ℕ)) (i at : ℕ) (d : ℕ × List ℕ) → i < length xs → at ≡ length xs - 1 - i → d ≡ get_or xs at d → is_in numbers d.0 ≡ false → last_in numbers (take (length xs - i) xs) None ≡ last_in numbers (take (length xs - (i + 1)) xs) None
   last_before xs i at d within p e h = back xs i at d false within p e h

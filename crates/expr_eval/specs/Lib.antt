@@ -1,3 +1,4 @@
 pub mod Evaluates
 pub mod Operand
 pub mod Reads
+pub mod Yields

@@ -1,25 +1,16 @@
--- What single parts of an evaluation give: a field, a variable, a column of a row that was hit, and a look-up whose keys are there.
+-- What single parts of an evaluation give: a field, a column of a row that was hit, and a look-up whose keys are there.
 use Rattle.std.specs.Prelude.{ℕ, Bool, List, slice_get, Option, Some, None, Result, Ok, Err}
-use Rattle.db_model.specs.declared.database.Database.{Database}
-use Rattle.db_model.specs.declared.env.Env.{Env}
 use Rattle.db_model.specs.declared.tree.Reason.{Reason}
 use Rattle.db_model.specs.declared.tree.Reason.TheVariants as reason
 use Rattle.db_model.specs.declared.value.Value.{Value}
 use Rattle.db_model.specs.declared.value.Value.TheVariants.{Buf}
-use Rattle.db_model.specs.Expression.{Eval, ◌>>=◌, special_value, value_or_zero, asks, hit_as_number}
+use Rattle.db_model.specs.Expression.{Eval, ◌>>=◌, value_or_zero, asks, hit_as_number}
 use Rattle.db_model.specs.declared.question.Question.TheVariants.{Look}
-use Rattle.db_model.specs.Names.{Text, variable_at}
-use Rattle.db_model.specs.declared.expression.Special.{Special}
 
 -- the bytes of a field, where there is one
 abbrev pub field_value : Option (List ℕ) → Result Value Reason
 field_value None = Err reason.NoField
 field_value (Some b) = Ok (Buf b)
-
--- a variable's value: of a special one, or of the one at its place
-abbrev pub variable_value : Database → Option Special → Text → Env → Value
-variable_value db None name z = value_or_zero (slice_get z.vars (variable_at db name))
-variable_value db (Some s) name z = special_value s z
 
 -- a column of the row last hit of a table
 abbrev pub column_value : Option (Option (List Value)) → ℕ → Result Value Reason

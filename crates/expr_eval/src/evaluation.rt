@@ -1,32 +1,27 @@
 ghost use Rattle.std.specs.Prelude.{◌≡◌, ◌<◌, true, slice_get, map, [], IfOk};
 ghost use Rattle.db_model.specs.Expression;
-ghost use Rattle.db_model.specs.Expression.{val, value, keys_from};
-ghost use Rattle.db_model.specs.declared.expression.Expr.TheOpen as layer;
+ghost use Rattle.db_model.specs.Expression.{keys_from};
 ghost use Rattle.db_model.specs.Fitting.{keys_fit};
-ghost use Rattle.db_model.specs.Names.{table_at};
-ghost use Rattle.db_model.specs.Numbering.{names_of_protocol};
 ghost use Rattle.db_model.specs.Over.{point};
+ghost use Rattle.expr_code.specs.declared.code.ExprCode.TheOpen as layer;
+ghost use Rattle.expr_code.specs.Meaning.{code_val, code_value};
 ghost use Rattle.expr_eval.specs.Evaluates.{Evaluates, Stays, itself};
-ghost use Rattle.expr_eval.specs.Operand.{shown};
+ghost use Rattle.expr_eval.specs.Yields.{Yields};
 
-use crate::fields::is_present;
 use crate::operand::Operand;
-use crate::tables::look;
+use crate::tables::{Asked, look};
 use crate::{EvalEnd, operators, reads};
-use db_model::{
-    Answers, Bytes, CheckedDb, Env, Expr, KeyDecl, Keys, Name, Operator, Reason, STAMP_END, Value,
-};
+use db_model::{Answers, Bytes, CheckedDb, Env, KeyDecl, Keys, Operator, Reason, STAMP_END, Value};
+use expr_code::ExprCode;
 use std::alloc::Global;
 
-/// Evaluates an expression in the protocol of this number. A protocol that isn't declared has no fields.
-/// Fault: the expression has no value, for this reason. What was asked before has been answered and stays.
-/// NoMemory may always come, and does for a number that is to be written in more bytes than bytes can be. It
-/// goes as deep as the expression, which in a checked database is at most 32 deep.
+/// Evaluates the code of an expression. Fault: the expression has no value, for this reason. What was asked before
+/// has been answered and stays. NoMemory may always come, and does for a number that is to be written in more bytes
+/// than bytes can be. It goes as deep as the expression, which in a checked database is at most 32 deep.
 pub fn eval<A: Answers>(
     alloc: Global,
-    e: &Expr,
+    code: &ExprCode,
     db: &CheckedDb,
-    protocol: u16,
     env: &mut Env,
     answers: &mut A,
 ) -> Result<Value, EvalEnd>
@@ -34,18 +29,19 @@ pub fn eval<A: Answers>(
     requires time { env.old.packet.stamp < STAMP_END }
     ensures database { A.database answers.new ≡ db.now }
     ensures stays { Stays env.old env.new }
-    ensures value { Evaluates db.now (val db.now (names_of_protocol db.now protocol) e.now) itself (point env.old (A.content answers.old) (A.told answers.old)) result (point env.new (A.content answers.new) (A.told answers.new)) }
+    ensures value { Evaluates db.now (code_val db.now code.now) itself
+        (point env.old (A.content answers.old) (A.told answers.old)) result
+        (point env.new (A.content answers.new) (A.told answers.new)) }
 {
-    let operand = evaluate(alloc, e, db, protocol, env, answers)?;
+    let operand = evaluate(alloc, code, db, env, answers)?;
     operand.into_value(alloc, &env.packet.bytes)
 }
 
 #[cycle(parts)]
 fn evaluate<A: Answers>(
     alloc: Global,
-    e: &Expr,
+    code: &ExprCode,
     db: &CheckedDb,
-    protocol: u16,
     env: &mut Env,
     answers: &mut A,
 ) -> Result<Operand, EvalEnd>
@@ -53,55 +49,48 @@ fn evaluate<A: Answers>(
     requires time { env.old.packet.stamp < STAMP_END }
     ensures database { A.database answers.new ≡ A.database answers.old }
     ensures packet { env.new.packet ≡ env.old.packet }
-    ensures value { Evaluates db.now (val db.now (names_of_protocol db.now protocol) e.now) shown (point env.old (A.content answers.old) (A.told answers.old)) result (point env.new (A.content answers.new) (A.told answers.new)) }
+    ensures value { Yields A.content A.told db.now
+        (code_val db.now code.now)
+        (env.old, answers.old) result (env.new, answers.new) }
 {
-    match e {
-        Expr::Number(n) => Ok(Operand::of_number(*n)),
-        Expr::Text(text) => reads::text(text),
-        Expr::Protocol(name) => Ok(Operand::Own(reads::protocol(db, name))),
-        Expr::Field(name) => reads::field(db, protocol, name.as_slice(), env),
-        Expr::Variable(name) => reads::variable(db, name.as_slice(), env),
-        Expr::Column { table, column } => {
-            reads::column(db, table.as_slice(), column.as_slice(), env)
+    match code {
+        ExprCode::Number(n) => Ok(Operand::of_number(*n)),
+        ExprCode::Text(text) => reads::text(text),
+        ExprCode::Protocol(number) => Ok(Operand::Own(Value::Proto(*number))),
+        ExprCode::Field(numbers) => reads::field(numbers, env),
+        ExprCode::IsPresent(numbers) => Ok(reads::presence(numbers, env)),
+        ExprCode::Special(special) => Ok(reads::special(*special, env)),
+        ExprCode::Variable(place) => reads::variable(*place, env),
+        ExprCode::Column { table, column } => reads::column(*table, *column, env),
+        ExprCode::Not(x) => negation(alloc, x.get(), db, env, answers),
+        ExprCode::And(x, y) => conjunction(alloc, x.get(), y.get(), db, env, answers),
+        ExprCode::Or(x, y) => disjunction(alloc, x.get(), y.get(), db, env, answers),
+        ExprCode::Binary(op, x, y) => operation(alloc, *op, (x.get(), y.get()), db, env, answers),
+        ExprCode::Slice { base, from, count } => {
+            slice(
+                alloc,
+                base.get(),
+                (from.get(), count.get()),
+                db,
+                env,
+                answers,
+            )
         }
-        Expr::IsPresent(name) => {
-            let present = env.present.as_slice();
-            Ok(Operand::of_truth(is_present(db, protocol, name.as_slice(), present)))
+        ExprCode::ToNumber(x) => to_number(alloc, x.get(), db, env, answers),
+        ExprCode::LengthOf(x) => length_of(alloc, x.get(), db, env, answers),
+        ExprCode::ToBytes { value, size } => {
+            to_bytes(alloc, value.get(), *size, db, env, answers)
         }
-        Expr::Not(x) => negation(alloc, x.get(), db, protocol, env, answers),
-        Expr::And(x, y) => conjunction(alloc, x.get(), y.get(), db, protocol, env, answers),
-        Expr::Or(x, y) => disjunction(alloc, x.get(), y.get(), db, protocol, env, answers),
-        Expr::Binary(op, x, y) => {
-            operation(alloc, *op, x.get(), y.get(), db, protocol, env, answers)
+        ExprCode::HasText { within, text } => {
+            has_text(alloc, within.get(), text, db, env, answers)
         }
-        Expr::Slice { base, from, count } => slice(
-            alloc,
-            base.get(),
-            from.get(),
-            count.get(),
-            db,
-            protocol,
-            env,
-            answers,
-        ),
-        Expr::ToNumber(x) => to_number(alloc, x.get(), db, protocol, env, answers),
-        Expr::LengthOf(x) => length_of(alloc, x.get(), db, protocol, env, answers),
-        Expr::ToBytes { value, size } => {
-            to_bytes(alloc, value.get(), *size, db, protocol, env, answers)
+        ExprCode::LookUp { table, renew, keys } => {
+            let asked = Asked {
+                table: *table,
+                renew: *renew,
+            };
+            look_up(alloc, asked, keys.as_slice(), db, env, answers)
         }
-        Expr::HasText { within, text } => {
-            has_text(alloc, within.get(), text, db, protocol, env, answers)
-        }
-        Expr::LookUp { table, renew, keys } => look_up(
-            alloc,
-            table,
-            *renew,
-            keys.as_slice(),
-            db,
-            protocol,
-            env,
-            answers,
-        ),
     }
 }
 
@@ -110,9 +99,8 @@ fn evaluate<A: Answers>(
 #[cycle(parts)]
 fn negation<A: Answers>(
     alloc: Global,
-    x: &Expr,
+    x: &ExprCode,
     db: &CheckedDb,
-    protocol: u16,
     env: &mut Env,
     answers: &mut A,
 ) -> Result<Operand, EvalEnd>
@@ -120,19 +108,20 @@ fn negation<A: Answers>(
     requires time { env.old.packet.stamp < STAMP_END }
     ensures database { A.database answers.new ≡ A.database answers.old }
     ensures packet { env.new.packet ≡ env.old.packet }
-    ensures value { Evaluates db.now (value db.now (names_of_protocol db.now protocol) (layer.Not (val db.now (names_of_protocol db.now protocol) x.now))) shown (point env.old (A.content answers.old) (A.told answers.old)) result (point env.new (A.content answers.new) (A.told answers.new)) }
+    ensures value { Yields A.content A.told db.now
+        (code_value db.now (layer.Not (code_val db.now x.now)))
+        (env.old, answers.old) result (env.new, answers.new) }
 {
-    let x = evaluate(alloc, x, db, protocol, env, answers)?;
+    let x = evaluate(alloc, x, db, env, answers)?;
     Ok(Operand::of_truth(!x.is_so()))
 }
 
 #[cycle(parts)]
 fn conjunction<A: Answers>(
     alloc: Global,
-    x: &Expr,
-    y: &Expr,
+    x: &ExprCode,
+    y: &ExprCode,
     db: &CheckedDb,
-    protocol: u16,
     env: &mut Env,
     answers: &mut A,
 ) -> Result<Operand, EvalEnd>
@@ -140,23 +129,24 @@ fn conjunction<A: Answers>(
     requires time { env.old.packet.stamp < STAMP_END }
     ensures database { A.database answers.new ≡ A.database answers.old }
     ensures packet { env.new.packet ≡ env.old.packet }
-    ensures value { Evaluates db.now (value db.now (names_of_protocol db.now protocol) (layer.And (val db.now (names_of_protocol db.now protocol) x.now) (val db.now (names_of_protocol db.now protocol) y.now))) shown (point env.old (A.content answers.old) (A.told answers.old)) result (point env.new (A.content answers.new) (A.told answers.new)) }
+    ensures value { Yields A.content A.told db.now
+        (code_value db.now (layer.And (code_val db.now x.now) (code_val db.now y.now)))
+        (env.old, answers.old) result (env.new, answers.new) }
 {
-    let x = evaluate(alloc, x, db, protocol, env, answers)?;
+    let x = evaluate(alloc, x, db, env, answers)?;
     if !x.is_so() {
         return Ok(Operand::of_number(0));
     }
-    let y = evaluate(alloc, y, db, protocol, env, answers)?;
+    let y = evaluate(alloc, y, db, env, answers)?;
     Ok(Operand::of_truth(y.is_so()))
 }
 
 #[cycle(parts)]
 fn disjunction<A: Answers>(
     alloc: Global,
-    x: &Expr,
-    y: &Expr,
+    x: &ExprCode,
+    y: &ExprCode,
     db: &CheckedDb,
-    protocol: u16,
     env: &mut Env,
     answers: &mut A,
 ) -> Result<Operand, EvalEnd>
@@ -164,13 +154,15 @@ fn disjunction<A: Answers>(
     requires time { env.old.packet.stamp < STAMP_END }
     ensures database { A.database answers.new ≡ A.database answers.old }
     ensures packet { env.new.packet ≡ env.old.packet }
-    ensures value { Evaluates db.now (value db.now (names_of_protocol db.now protocol) (layer.Or (val db.now (names_of_protocol db.now protocol) x.now) (val db.now (names_of_protocol db.now protocol) y.now))) shown (point env.old (A.content answers.old) (A.told answers.old)) result (point env.new (A.content answers.new) (A.told answers.new)) }
+    ensures value { Yields A.content A.told db.now
+        (code_value db.now (layer.Or (code_val db.now x.now) (code_val db.now y.now)))
+        (env.old, answers.old) result (env.new, answers.new) }
 {
-    let x = evaluate(alloc, x, db, protocol, env, answers)?;
+    let x = evaluate(alloc, x, db, env, answers)?;
     if x.is_so() {
         return Ok(Operand::of_number(1));
     }
-    let y = evaluate(alloc, y, db, protocol, env, answers)?;
+    let y = evaluate(alloc, y, db, env, answers)?;
     Ok(Operand::of_truth(y.is_so()))
 }
 
@@ -178,10 +170,8 @@ fn disjunction<A: Answers>(
 fn operation<A: Answers>(
     alloc: Global,
     op: Operator,
-    x: &Expr,
-    y: &Expr,
+    parts: (&ExprCode, &ExprCode),
     db: &CheckedDb,
-    protocol: u16,
     env: &mut Env,
     answers: &mut A,
 ) -> Result<Operand, EvalEnd>
@@ -189,21 +179,22 @@ fn operation<A: Answers>(
     requires time { env.old.packet.stamp < STAMP_END }
     ensures database { A.database answers.new ≡ A.database answers.old }
     ensures packet { env.new.packet ≡ env.old.packet }
-    ensures value { Evaluates db.now (value db.now (names_of_protocol db.now protocol) (layer.Binary op (val db.now (names_of_protocol db.now protocol) x.now) (val db.now (names_of_protocol db.now protocol) y.now))) shown (point env.old (A.content answers.old) (A.told answers.old)) result (point env.new (A.content answers.new) (A.told answers.new)) }
+    ensures value { Yields A.content A.told db.now
+        (code_value db.now (layer.Binary op (code_val db.now parts.entry.0.now) (code_val db.now parts.entry.1.now)))
+        (env.old, answers.old) result (env.new, answers.new) }
 {
-    let x = evaluate(alloc, x, db, protocol, env, answers)?;
-    let y = evaluate(alloc, y, db, protocol, env, answers)?;
+    let x = evaluate(alloc, parts.0, db, env, answers)?;
+    let y = evaluate(alloc, parts.1, db, env, answers)?;
     operators::binary(op, &x, &y, &env.packet.bytes)
 }
 
+/// The range is where the slice begins, and how many bytes it has.
 #[cycle(parts)]
 fn slice<A: Answers>(
     alloc: Global,
-    base: &Expr,
-    from: &Expr,
-    count: &Expr,
+    base: &ExprCode,
+    range: (&ExprCode, &ExprCode),
     db: &CheckedDb,
-    protocol: u16,
     env: &mut Env,
     answers: &mut A,
 ) -> Result<Operand, EvalEnd>
@@ -211,20 +202,22 @@ fn slice<A: Answers>(
     requires time { env.old.packet.stamp < STAMP_END }
     ensures database { A.database answers.new ≡ A.database answers.old }
     ensures packet { env.new.packet ≡ env.old.packet }
-    ensures value { Evaluates db.now (value db.now (names_of_protocol db.now protocol) (layer.Slice (val db.now (names_of_protocol db.now protocol) base.now) (val db.now (names_of_protocol db.now protocol) from.now) (val db.now (names_of_protocol db.now protocol) count.now))) shown (point env.old (A.content answers.old) (A.told answers.old)) result (point env.new (A.content answers.new) (A.told answers.new)) }
+    ensures value { Yields A.content A.told db.now
+        (code_value db.now (layer.Slice (code_val db.now base.now)
+        (code_val db.now range.entry.0.now) (code_val db.now range.entry.1.now)))
+        (env.old, answers.old) result (env.new, answers.new) }
 {
-    let base = evaluate(alloc, base, db, protocol, env, answers)?;
-    let from = evaluate(alloc, from, db, protocol, env, answers)?;
-    let count = evaluate(alloc, count, db, protocol, env, answers)?;
+    let base = evaluate(alloc, base, db, env, answers)?;
+    let from = evaluate(alloc, range.0, db, env, answers)?;
+    let count = evaluate(alloc, range.1, db, env, answers)?;
     operators::slice(alloc, &base, &from, &count, &env.packet.bytes)
 }
 
 #[cycle(parts)]
 fn to_number<A: Answers>(
     alloc: Global,
-    x: &Expr,
+    x: &ExprCode,
     db: &CheckedDb,
-    protocol: u16,
     env: &mut Env,
     answers: &mut A,
 ) -> Result<Operand, EvalEnd>
@@ -232,18 +225,19 @@ fn to_number<A: Answers>(
     requires time { env.old.packet.stamp < STAMP_END }
     ensures database { A.database answers.new ≡ A.database answers.old }
     ensures packet { env.new.packet ≡ env.old.packet }
-    ensures value { Evaluates db.now (value db.now (names_of_protocol db.now protocol) (layer.ToNumber (val db.now (names_of_protocol db.now protocol) x.now))) shown (point env.old (A.content answers.old) (A.told answers.old)) result (point env.new (A.content answers.new) (A.told answers.new)) }
+    ensures value { Yields A.content A.told db.now
+        (code_value db.now (layer.ToNumber (code_val db.now x.now)))
+        (env.old, answers.old) result (env.new, answers.new) }
 {
-    let x = evaluate(alloc, x, db, protocol, env, answers)?;
+    let x = evaluate(alloc, x, db, env, answers)?;
     operators::to_number(&x, &env.packet.bytes)
 }
 
 #[cycle(parts)]
 fn length_of<A: Answers>(
     alloc: Global,
-    x: &Expr,
+    x: &ExprCode,
     db: &CheckedDb,
-    protocol: u16,
     env: &mut Env,
     answers: &mut A,
 ) -> Result<Operand, EvalEnd>
@@ -251,19 +245,20 @@ fn length_of<A: Answers>(
     requires time { env.old.packet.stamp < STAMP_END }
     ensures database { A.database answers.new ≡ A.database answers.old }
     ensures packet { env.new.packet ≡ env.old.packet }
-    ensures value { Evaluates db.now (value db.now (names_of_protocol db.now protocol) (layer.LengthOf (val db.now (names_of_protocol db.now protocol) x.now))) shown (point env.old (A.content answers.old) (A.told answers.old)) result (point env.new (A.content answers.new) (A.told answers.new)) }
+    ensures value { Yields A.content A.told db.now
+        (code_value db.now (layer.LengthOf (code_val db.now x.now)))
+        (env.old, answers.old) result (env.new, answers.new) }
 {
-    let x = evaluate(alloc, x, db, protocol, env, answers)?;
+    let x = evaluate(alloc, x, db, env, answers)?;
     Ok(operators::length_of(&x, &env.packet.bytes))
 }
 
 #[cycle(parts)]
 fn to_bytes<A: Answers>(
     alloc: Global,
-    x: &Expr,
+    x: &ExprCode,
     size: u32,
     db: &CheckedDb,
-    protocol: u16,
     env: &mut Env,
     answers: &mut A,
 ) -> Result<Operand, EvalEnd>
@@ -271,19 +266,20 @@ fn to_bytes<A: Answers>(
     requires time { env.old.packet.stamp < STAMP_END }
     ensures database { A.database answers.new ≡ A.database answers.old }
     ensures packet { env.new.packet ≡ env.old.packet }
-    ensures value { Evaluates db.now (value db.now (names_of_protocol db.now protocol) (layer.ToBytes (val db.now (names_of_protocol db.now protocol) x.now) size)) shown (point env.old (A.content answers.old) (A.told answers.old)) result (point env.new (A.content answers.new) (A.told answers.new)) }
+    ensures value { Yields A.content A.told db.now
+        (code_value db.now (layer.ToBytes (code_val db.now x.now) size))
+        (env.old, answers.old) result (env.new, answers.new) }
 {
-    let x = evaluate(alloc, x, db, protocol, env, answers)?;
+    let x = evaluate(alloc, x, db, env, answers)?;
     operators::to_bytes(alloc, &x, size)
 }
 
 #[cycle(parts)]
 fn has_text<A: Answers>(
     alloc: Global,
-    x: &Expr,
+    x: &ExprCode,
     text: &Bytes,
     db: &CheckedDb,
-    protocol: u16,
     env: &mut Env,
     answers: &mut A,
 ) -> Result<Operand, EvalEnd>
@@ -291,22 +287,22 @@ fn has_text<A: Answers>(
     requires time { env.old.packet.stamp < STAMP_END }
     ensures database { A.database answers.new ≡ A.database answers.old }
     ensures packet { env.new.packet ≡ env.old.packet }
-    ensures value { Evaluates db.now (value db.now (names_of_protocol db.now protocol) (layer.HasText (val db.now (names_of_protocol db.now protocol) x.now) text.now)) shown (point env.old (A.content answers.old) (A.told answers.old)) result (point env.new (A.content answers.new) (A.told answers.new)) }
+    ensures value { Yields A.content A.told db.now
+        (code_value db.now (layer.HasText (code_val db.now x.now) text.now))
+        (env.old, answers.old) result (env.new, answers.new) }
 {
-    let x = evaluate(alloc, x, db, protocol, env, answers)?;
+    let x = evaluate(alloc, x, db, env, answers)?;
     Ok(operators::has_text(&x, text, &env.packet.bytes))
 }
 
-/// A look-up in the table of this name: its keys, and then one question. A table that isn't declared has
-/// nothing to hit, and then no key is evaluated.
+/// A look-up: its keys, and then one question. A table that isn't declared has nothing to hit, and then no key is
+/// evaluated.
 #[cycle(parts)]
 fn look_up<A: Answers>(
     alloc: Global,
-    table: &Name,
-    renew: bool,
-    parts: &[Expr],
+    asked: Asked,
+    parts: &[ExprCode],
     db: &CheckedDb,
-    protocol: u16,
     env: &mut Env,
     answers: &mut A,
 ) -> Result<Operand, EvalEnd>
@@ -314,14 +310,16 @@ fn look_up<A: Answers>(
     requires time { env.old.packet.stamp < STAMP_END }
     ensures database { A.database answers.new ≡ A.database answers.old }
     ensures packet { env.new.packet ≡ env.old.packet }
-    ensures value { Evaluates db.now (Expression.look_up (slice_get db.now.tables (table_at db.now table.now)) (table_at db.now table.now) renew (map (val db.now (names_of_protocol db.now protocol)) parts.now)) shown (point env.old (A.content answers.old) (A.told answers.old)) result (point env.new (A.content answers.new) (A.told answers.new)) }
+    ensures value { Yields A.content A.told db.now
+        (Expression.look_up (slice_get db.now.tables asked.table) asked.table asked.renew
+        (map (code_val db.now) parts.now))
+        (env.old, answers.old) result (env.new, answers.new) }
 {
-    let place = db.table_at(table.as_slice());
-    match db.database().tables.get(place) {
+    match db.database().tables.get(asked.table) {
         Some(declared) => {
             let sizes = declared.keys.as_slice();
-            let keys = keys(alloc, parts, sizes, db, protocol, env, answers)?;
-            look(db, place as u8, keys, renew, env, answers)
+            let keys = keys(alloc, parts, sizes, db, env, answers)?;
+            look(db, asked.table as u8, keys, asked.renew, env, answers)
         }
         None => Ok(Operand::of_number(0)),
     }
@@ -332,10 +330,9 @@ fn look_up<A: Answers>(
 #[cycle(parts)]
 fn keys<A: Answers>(
     alloc: Global,
-    parts: &[Expr],
+    parts: &[ExprCode],
     sizes: &[KeyDecl],
     db: &CheckedDb,
-    protocol: u16,
     env: &mut Env,
     answers: &mut A,
 ) -> Result<Keys, EvalEnd>
@@ -344,7 +341,10 @@ fn keys<A: Answers>(
     ensures database { A.database answers.new ≡ A.database answers.old }
     ensures packet { env.new.packet ≡ env.old.packet }
     ensures fits { IfOk result (λ ks. keys_fit (map (λ k. k.size) sizes.now) ks ≡ true) }
-    ensures value { Evaluates db.now (keys_from [] (map (λ k. k.size) sizes.now) (map (val db.now (names_of_protocol db.now protocol)) parts.now)) itself (point env.old (A.content answers.old) (A.told answers.old)) result (point env.new (A.content answers.new) (A.told answers.new)) }
+    ensures value { Evaluates db.now
+        (keys_from [] (map (λ k. k.size) sizes.now) (map (code_val db.now) parts.now)) itself
+        (point env.old (A.content answers.old) (A.told answers.old)) result
+        (point env.new (A.content answers.new) (A.told answers.new)) }
 {
     let mut keys = Keys::new(alloc);
     for (i, part) in parts.iter().enumerate() {
@@ -352,7 +352,7 @@ fn keys<A: Answers>(
             Some(declaration) => declaration.size,
             None => return Ok(keys),
         };
-        let x = evaluate(alloc, part, db, protocol, env, answers)?;
+        let x = evaluate(alloc, part, db, env, answers)?;
         keys.push(operators::key(alloc, &x, size, &env.packet.bytes)?)?;
     }
     if parts.len() < sizes.len() {

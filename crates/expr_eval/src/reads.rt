@@ -1,30 +1,38 @@
 ghost use Rattle.std.specs.Prelude.{◌≡◌, slice_get, None, Ok, List, ℕ};
-ghost use Rattle.db_model.specs.declared.value.Value.TheVariants.{Buf, Proto};
-ghost use Rattle.db_model.specs.Expression.{last_of, special_value, value_or_zero};
-ghost use Rattle.db_model.specs.Names.{protocol_at, table_at, column_at};
-ghost use Rattle.db_model.specs.Numbering.{names_of_protocol};
-ghost use Rattle.db_model.specs.Special.{special};
+ghost use Rattle.db_model.specs.declared.value.Value.TheVariants.{Buf};
+ghost use Rattle.db_model.specs.Expression.{special_value, truth, value_or_zero};
+ghost use Rattle.expr_code.specs.Meaning.{last_in, some_in};
+ghost use Rattle.expr_eval.specs.declared.operand.Operand.TheVariants.{Own};
 ghost use Rattle.expr_eval.specs.Evaluates.{Gave};
 ghost use Rattle.expr_eval.specs.Operand.{shown};
-ghost use Rattle.expr_eval.specs.Reads.{field_value, variable_value, column_value};
+ghost use Rattle.expr_eval.specs.Reads.{field_value, column_value};
 
 use crate::EvalEnd;
-use crate::fields::last_value;
+use crate::fields::{is_present, last_value};
 use crate::operand::Operand;
-use db_model::{Bytes, CheckedDb, Env, Name, Reason, Row, Special, Value};
+use db_model::{Bytes, Env, Reason, Row, Special, Value};
+use expr_code::FieldNumbers;
 
-/// NoField: no field of this name was decoded.
-pub fn field(db: &CheckedDb, protocol: u16, name: &[u8], env: &Env) -> Result<Operand, EvalEnd>
-    ensures { Gave (shown env.now.packet.bytes) (field_value (last_of (names_of_protocol db.now protocol) name.now env.now.present None)) result }
+/// NoField: no field with one of these numbers was decoded.
+pub fn field(numbers: &FieldNumbers, env: &Env) -> Result<Operand, EvalEnd>
+    ensures { Gave (shown env.now.packet.bytes) (field_value (last_in numbers.now env.now.present None)) result }
 {
-    match last_value(db, protocol, name, env.present.as_slice()) {
+    match last_value(numbers.as_slice(), env.present.as_slice()) {
         Some(bytes) => Ok(Operand::Own(Value::Buf(bytes.clone()?))),
         None => Err(EvalEnd::Fault(Reason::NoField)),
     }
 }
 
+/// Whether a field with one of these numbers was decoded.
+pub fn presence(numbers: &FieldNumbers, env: &Env) -> Operand
+    ensures { result ≡ Own (truth (some_in numbers.now env.now.present)) }
+{
+    let is_present = is_present(numbers.as_slice(), env.present.as_slice());
+    Operand::of_truth(is_present)
+}
+
 /// The captured bytes are a piece of themselves.
-fn special_operand(special: Special, env: &Env) -> Operand
+pub fn special(special: Special, env: &Env) -> Operand
     ensures { shown env.now.packet.bytes result ≡ special_value special env.now }
 {
     match special {
@@ -49,34 +57,21 @@ fn value_at(row: &Row, at: usize) -> Result<Operand, EvalEnd>
     }
 }
 
-/// The name stands without its `$`.
-pub fn variable(db: &CheckedDb, name: &[u8], env: &Env) -> Result<Operand, EvalEnd>
-    ensures { Gave (shown env.now.packet.bytes) (Ok (variable_value db.now (special name.now) name.now env.now)) result }
+/// The value of the declared variable at this place.
+pub fn variable(at: usize, env: &Env) -> Result<Operand, EvalEnd>
+    ensures { (packet : List ℕ) → Gave (shown packet) (Ok (value_or_zero (slice_get env.now.vars at))) result }
 {
-    match Special::of(name) {
-        Some(special) => Ok(special_operand(special, env)),
-        None => value_at(&env.vars, db.variable_at(name)),
-    }
+    value_at(&env.vars, at)
 }
 
 /// NoHit: no row was hit in the table.
-pub fn column(db: &CheckedDb, table: &[u8], column: &[u8], env: &Env) -> Result<Operand, EvalEnd>
-    ensures { Gave (shown env.now.packet.bytes) (column_value (slice_get env.now.hits (table_at db.now table.now)) (column_at (slice_get db.now.tables (table_at db.now table.now)) column.now)) result }
+pub fn column(table: usize, column: usize, env: &Env) -> Result<Operand, EvalEnd>
+    ensures { Gave (shown env.now.packet.bytes) (column_value (slice_get env.now.hits table) column) result }
 {
-    let place = db.table_at(table);
-    let at = db.column_at(place, column);
-    match env.hits.get(place) {
-        Some(Some(row)) => value_at(row, at),
+    match env.hits.get(table) {
+        Some(Some(row)) => value_at(row, column),
         Some(None) | None => Err(EvalEnd::Fault(Reason::NoHit)),
     }
-}
-
-pub fn protocol(db: &CheckedDb, name: &Name) -> Value
-    ensures { result ≡ Proto (protocol_at db.now name.now) }
-{
-    // Its contract says that a checked database has few enough protocols for their numbers.
-    let _database = db.database();
-    Value::Proto(db.protocol_at(name.as_slice()) as u16)
 }
 
 pub fn text(text: &Bytes) -> Result<Operand, EvalEnd>

@@ -2,13 +2,18 @@ ghost use Rattle.std.specs.Prelude.{◌≡◌, ◌<◌, true, slice_set, Some};
 ghost use Rattle.expr_eval.specs.Reads.{looked_up};
 ghost use Rattle.db_model.specs.Fitting.{question_fits};
 ghost use Rattle.db_model.specs.declared.question.Question.TheVariants.{Look};
-ghost use Rattle.db_model.specs.Over.{point};
-ghost use Rattle.expr_eval.specs.Evaluates.{Evaluates};
-ghost use Rattle.expr_eval.specs.Operand.{shown};
+ghost use Rattle.expr_eval.specs.Yields.{Yields};
 
 use crate::EvalEnd;
 use crate::operand::Operand;
 use db_model::{Answer, Answers, CheckedDb, Env, Keys, Question, Reason, Row, STAMP_END};
+
+/// The number of the table that a look-up asks in, and whether a hit renews the entry.
+#[derive(Clone, Copy)]
+pub struct Asked {
+    pub table: usize,
+    pub renew: bool,
+}
 
 /// Asks for the keys in the table of this number. Questions: none is left.
 pub fn look<A: Answers>(
@@ -24,7 +29,8 @@ pub fn look<A: Answers>(
     requires fits { question_fits db.now (Look table keys renew) ≡ true }
     ensures database { A.database answers.new ≡ A.database answers.old }
     ensures packet { env.new.packet ≡ env.old.packet }
-    ensures value { Evaluates db.now (looked_up table keys renew) shown (point env.old (A.content answers.old) (A.told answers.old)) result (point env.new (A.content answers.new) (A.told answers.new)) }
+    ensures value { Yields A.content A.told db.now (looked_up table keys renew)
+        (env.old, answers.old) result (env.new, answers.new) }
 {
     if env.questions == 0 {
         return Err(EvalEnd::Fault(Reason::Questions));

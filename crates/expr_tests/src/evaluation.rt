@@ -5,6 +5,7 @@ use db_model::{
     Answer, Answers, Bytes, CheckedDb, Env, Expr, FieldValues, MOST_BYTES, NoMemory, Packet,
     Question, Reason, Sequence, Stamp, Value,
 };
+use expr_code::code_of;
 use expr_eval::{EvalEnd, eval};
 use expr_text::{ExprFail, parse_expr};
 use std::alloc::Global;
@@ -135,7 +136,8 @@ fn evaluated(
         db,
         pairs: Sequence::new(alloc),
     };
-    let value = eval(alloc, e, db, 0, &mut env, &mut answers);
+    let code = code_of(alloc, e, db, 0)?;
+    let value = eval(alloc, &code, db, &mut env, &mut answers);
     Ok((value, answers.pairs.len()))
 }
 

@@ -1,11 +1,9 @@
 ghost use Rattle.fields.specs.Outcome.{IsAligned};
 
-use db_model::{Bytes, CaseRange, FieldKind, MOST_NODES, Node, Nodes, PacketTree, Reason};
-use encap::{Chain, Entered, choose};
+use db_model::{Bytes, CaseRange, FieldKind};
+use encap::choose;
 use fields::{Extent, bit_value, extent};
-use std::alloc::Global;
 use std::test::Fail;
-use tree::{AddFail, TreeBuilder};
 
 /// Whether a field of these bytes that begins at `at`, in a protocol that begins at `origin`, ends so before each of
 /// the limits.
@@ -67,115 +65,6 @@ fn bit_values_are_shifted_and_keep_their_width(rt: HostRuntime) {
     assert!(rt; bits_are(&[0x80], 0xC0, &[0x02]));
 }
 
-/// A block with a field, a block and in that a block with a field, in one protocol.
-fn blocks_in_blocks(alloc: Global) -> Result<PacketTree, AddFail> {
-    let mut builder = TreeBuilder::new(alloc);
-    builder.open_proto(7, 0)?;
-    builder.open_block(0, 0)?;
-    builder.field(0, 0, 1, &[1])?;
-    builder.open_block(1, 1)?;
-    builder.open_block(2, 2)?;
-    builder.field(1, 2, 2, &[2, 3])?;
-    builder.close(4);
-    builder.close(5);
-    builder.close(6);
-    builder.close(8);
-    Ok(builder.finish())
-}
-
-/// The nodes of the block at this place, where it has this number, position and size.
-fn block_in(nodes: &Nodes, at: usize, wanted: (u32, u32, u32)) -> Option<&Nodes> {
-    match nodes.get(at) {
-        Some(
-            Node::Block {
-                block,
-                pos,
-                size,
-                nodes,
-            },
-        ) if (*block, *pos, *size) == wanted => Some(nodes),
-        _ => None,
-    }
-}
-
-fn has_field(nodes: &Nodes, at: usize, wanted: (u32, u32, u32), bytes: &[u8]) -> bool {
-    match nodes.get(at) {
-        Some(
-            Node::Field {
-                field,
-                pos,
-                size,
-                value,
-            },
-        ) => (*field, *pos, *size) == wanted && value.as_slice() == bytes,
-        _ => false,
-    }
-}
-
-fn inner_blocks_stand(nodes: &Nodes) -> Option<bool> {
-    let outer = block_in(nodes, 0, (0, 0, 6))?;
-    let middle = block_in(outer, 1, (1, 1, 4))?;
-    let inner = block_in(middle, 0, (2, 2, 2))?;
-    let lengths = [nodes.len(), outer.len(), middle.len(), inner.len()];
-    Some(
-        lengths == [1, 2, 1, 1]
-            && has_field(outer, 0, (0, 0, 1), &[1])
-            && has_field(inner, 0, (1, 2, 2), &[2, 3]),
-    )
-}
-
-fn blocks_stand(tree: &PacketTree) -> bool {
-    match tree.get(0) {
-        Some(proto) => {
-            tree.len() == 1
-                && (proto.number, proto.pos, proto.size) == (7, 0, 8)
-                && inner_blocks_stand(&proto.nodes) == Some(true)
-        }
-        None => false,
-    }
-}
-
-#[test]
-fn blocks_stand_in_one_another(rt: HostRuntime) -> Result<(), Fail> {
-    let tree = blocks_in_blocks(rt.alloc())?;
-    assert!(rt; blocks_stand(&tree));
-    Ok(())
-}
-
-/// A protocol with as many fields as a tree may have, a note and payload, and whether one more node was refused as one
-/// too many; none where a block was taken.
-fn full_tree(alloc: Global) -> Result<Option<(PacketTree, bool)>, AddFail> {
-    let mut builder = TreeBuilder::new(alloc);
-    builder.open_proto(3, 0)?;
-    for field in 0..MOST_NODES {
-        builder.field(field, 0, 1, &[])?;
-    }
-    let no_field = builder.field(0, 0, 1, &[]) == Err(AddFail::Nodes);
-    let Err(no_block) = builder.open_block(0, 0) else {
-        return Ok(None);
-    };
-    builder.note(Reason::Nodes, 5)?;
-    builder.close(7);
-    builder.payload(7, b"rest")?;
-    let refused = no_field && no_block == AddFail::Nodes;
-    Ok(Some((builder.finish(), refused)))
-}
-
-fn is_full_with_payload(tree: &PacketTree) -> bool {
-    let sizes = tree.as_slice().iter().map(|p| p.nodes.len());
-    sizes.eq([16_385, 1])
-}
-
-#[test]
-fn one_node_too_many_is_refused(rt: HostRuntime) -> Result<(), Fail> {
-    let holds = match full_tree(rt.alloc())? {
-        Some((tree, refused)) => refused && is_full_with_payload(&tree),
-        None => false,
-    };
-    assert!(rt; holds);
-    Ok(())
-}
-
 #[test]
 fn the_first_case_that_holds_the_number(rt: HostRuntime) {
     let cases = [
@@ -193,29 +82,4 @@ fn the_first_case_that_holds_the_number(rt: HostRuntime) {
     ] {
         assert!(rt; choose(&cases, v) == place);
     }
-}
-
-/// The first protocol is entered in an empty packet, and no second one.
-fn ends_in_an_empty_packet(chain: &mut Chain) -> bool {
-    chain.enter(0, 0, 0) == Entered::Go && chain.enter(1, 0, 0) == Entered::AtEnd
-}
-
-/// Behind one that is entered, 31 more are, one at each byte.
-fn fills(chain: &mut Chain) -> bool {
-    for at in 1..32u32 {
-        if chain.enter(1, at, 32) != Entered::Go {
-            return false;
-        }
-    }
-    true
-}
-
-fn is_full(chain: &mut Chain) -> bool {
-    chain.enter(1, 31, 32) == Entered::TooMany && chain.enter(1, 32, 32) == Entered::AtEnd
-}
-
-#[test]
-fn a_chain_ends_where_nothing_is_left(rt: HostRuntime) {
-    let mut chain = Chain::start();
-    assert!(rt; ends_in_an_empty_packet(&mut chain) && fills(&mut chain) && is_full(&mut chain));
 }

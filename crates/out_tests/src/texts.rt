@@ -1,9 +1,8 @@
-use db_model::{Bytes, CheckedDb, NoMemory, Packet, PacketTree};
+use db_model::{Bytes, CheckedDb, NoMemory, Node, Nodes, PAYLOAD, Packet, PacketTree, Proto};
 use psml_out::Summaries;
 use show::Labels;
 use std::alloc::Global;
 use std::test::Fail;
-use tree::TreeBuilder;
 
 /// What the outputs have of the smallest database, which has one protocol without parts and no section: whether that
 /// protocol has no labels and no pieces of a summary, what stands before the packets where the sections are named, and
@@ -29,9 +28,21 @@ fn packet(alloc: Global) -> Result<Packet, NoMemory> {
 
 /// All of it as payload.
 fn payload(alloc: Global) -> Result<PacketTree, NoMemory> {
-    let mut builder = TreeBuilder::new(alloc);
-    builder.payload(0, b"HI&")?;
-    Ok(builder.finish())
+    let mut nodes = Nodes::new(alloc);
+    nodes.push(Node::Field {
+        field: 0,
+        pos: 0,
+        size: 3,
+        value: Bytes::copy_of(alloc, b"HI&")?,
+    })?;
+    let mut protos = PacketTree::new(alloc);
+    protos.push(Proto {
+        number: PAYLOAD,
+        pos: 0,
+        size: 3,
+        nodes,
+    })?;
+    Ok(protos)
 }
 
 fn labels_are_none(alloc: Global, db: &CheckedDb) -> Result<bool, NoMemory> {

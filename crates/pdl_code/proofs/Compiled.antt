@@ -10,7 +10,7 @@ use Rattle.db_model.specs.Chain.{elements_of}
 use Rattle.db_model.specs.Elements.{included, list}
 use Rattle.db_model.specs.Lines.{Lines, over, lines_of, lines_in}
 use Rattle.db_model.specs.NumberFaults.{own_43, tables_43, template_43, too_many, fault_43}
-use Rattle.db_model.specs.Numbering.{none, counts_in, fields_in, blocks_in, field_names}
+use Rattle.db_model.specs.Numbering.{none, counts_in, fields_in, blocks_in, names_at, field_names}
 use Rattle.db_model.specs.Objection.{objection, IsChecked}
 use Rattle.db_model.proofs.Accepted.{append_front, append_back, no_faults}
 use Rattle.db_laws.proofs.Includes.{names_fit, over_none}
@@ -43,11 +43,11 @@ has_code db q p e is =
     let named : Lines = over (λ (b : NamedBlock). over (lines_of own_43) b.body) (blocks_in p.format) in
     let own_limits : own ≡ [] = append_front own named (limits_of db q p e is) in
     let named_limits : named ≡ [] = append_back own named (limits_of db q p e is) in
-    let names = each_of_all (Included db q (field_names p) (proto_code db q p) (included db p MOST_NESTED)) (λ name. of_name db q p is named_limits MOST_NESTED name (names_fit db q p e is name)) (includes_in (elements_of p)) in
+    let names = each_of_all (Included db q (proto_code db q p) (included db p MOST_NESTED)) (λ name. of_name db q p is named_limits MOST_NESTED name (names_fit db q p e is name)) (includes_in (elements_of p)) in
     record {
       code = proto_code db q p;
       stands = refl;
-      does = to_end db (field_names p) (proto_code db q p) (codes_in db q (elements_of p) none) (list db p (elements_of p) none) 0 (of_list db q (field_names p) (proto_code db q p) (included db p MOST_NESTED) (elements_of p) names own_limits none) (own_stands db q p);
+      does = to_end db (proto_code db q p) (codes_in db q (elements_of p) none) (list db p (elements_of p) none) 0 (of_list db q (field_names p) (ap names_at is) (proto_code db q p) (included db p MOST_NESTED) (elements_of p) names own_limits none) (own_stands db q p);
     }
 
 codes_at : (db : Database) (ps : List Protocol) (k q : ℕ) (p : Protocol) → slice_get ps q ≡ Some p → slice_get (protocol_codes db k ps) q ≡ Some (proto_code db (k + q) p)

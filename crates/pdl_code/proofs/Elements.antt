@@ -14,11 +14,11 @@ use Rattle.db_model.specs.declared.element.UpdateKey.{UpdateKey}
 use Rattle.db_model.specs.declared.element.UpdateValue.{UpdateValue}
 use Rattle.db_model.specs.declared.entry.Validity.{Validity}
 use Rattle.db_model.specs.declared.expression.Expr.{Expr}
-use Rattle.db_model.specs.Names.{Text, variable_at, table_at}
+use Rattle.db_model.specs.Names.{Text, variable_at}
 use Rattle.db_model.specs.Numbering.{Counts, none, plus, a_field, a_block, case_counts, branch_counts, counts_step, counts_of, counts_in}
 use Rattle.db_model.proofs.Layers.{fold_block, fold_loop, fold_switch, fold_if, fold_case, fold_branch, noted_block, noted_loop, noted_switch, noted_if, noted_case, noted_branch}
 use Rattle.pdl_code.specs.declared.code.Op.TheVariants.{Assign, Update, NextProto, Leave, Block, Loop}
-use Rattle.pdl_code.specs.Coding.{Ops, all_in, other_codes, around, if_code, switch_code, range_of, case_codes, behind_cases, field_code, include_of, coded, code_of, coded_parts, codes_in}
+use Rattle.pdl_code.specs.Coding.{Ops, all_in, other_codes, around, if_code, switch_code, range_of, case_codes, behind_cases, resolved, update_code, field_code, include_of, coded, code_of, coded_parts, codes_in}
 use Rattle.pdl_code.specs.Parts.{case_range, counts_in_cases, counts_in_other, codes_in_cases, codes_in_other}
 
 pub plus_none : (a : Counts) → plus a none ≡ a
@@ -92,7 +92,7 @@ module _ (db : Database) (q : ℕ) where
   all_counted [] = refl
   all_counted (x ∷ xs) = ap (λ n. plus (counts_of x) n) (all_counted xs)
 
-  pub code_field : (line : ℕ) (name : Text) (f : FieldForm) (longname : Option (List ℕ)) (show : Option Text) → code_of db q (element.Field line name f longname show) ≡ (λ at. field_code f at.fields)
+  pub code_field : (line : ℕ) (name : Text) (f : FieldForm) (longname : Option (List ℕ)) (show : Option Text) → code_of db q (element.Field line name f longname show) ≡ (λ at. field_code db q f at.fields)
   unfolding code_of
   code_field line name f longname show = refl
 
@@ -104,7 +104,7 @@ module _ (db : Database) (q : ℕ) where
   unfolding code_of
   code_include line name = refl
 
-  pub code_loop : (line : ℕ) (kind : LoopKind) (e : Expr) (body : List Element) → code_of db q (element.Loop line kind e body) ≡ (λ at. around (Loop kind e) (codes_in db q body at))
+  pub code_loop : (line : ℕ) (kind : LoopKind) (e : Expr) (body : List Element) → code_of db q (element.Loop line kind e body) ≡ (λ at. around (Loop kind (resolved db q e)) (codes_in db q body at))
   unfolding code_of
   code_loop line kind e body = noted_loop Counts counts_of (Counts → Ops) (coded db q) line kind e body
 
@@ -136,28 +136,28 @@ module _ (db : Database) (q : ℕ) where
   other_is None at = refl
   other_is (Some b) at = refl
 
-  pub code_switch : (line : ℕ) (e : Expr) (cs : List Case) (other : Option Branch) → code_of db q (element.Switch line e cs other) ≡ (λ at. switch_code e (map case_range cs) (codes_in_cases db q cs at) (codes_in_other db q other (plus at (counts_in_cases cs))))
+  pub code_switch : (line : ℕ) (e : Expr) (cs : List Case) (other : Option Branch) → code_of db q (element.Switch line e cs other) ≡ (λ at. switch_code (resolved db q e) (map case_range cs) (codes_in_cases db q cs at) (codes_in_other db q other (plus at (counts_in_cases cs))))
   unfolding code_of
   code_switch line e cs other =
       let there : (at : Counts) → other_codes (option_map (noted_branch Counts counts_of (Counts → Ops) (coded db q)) other) (behind_cases (map (noted_case Counts counts_of (Counts → Ops) (coded db q)) cs) at) ≡ codes_in_other db q other (plus at (counts_in_cases cs)) = λ at. ap (λ n. other_codes (option_map (noted_branch Counts counts_of (Counts → Ops) (coded db q)) other) n) (behind_are cs at) ∙ other_is other (plus at (counts_in_cases cs)) in
       noted_switch Counts counts_of (Counts → Ops) (coded db q) line e cs other
-      ∙ (λ i at. switch_code e (ranges_are cs i) (cases_are cs at i) (there at i))
+      ∙ (λ i at. switch_code (resolved db q e) (ranges_are cs i) (cases_are cs at i) (there at i))
 
-  pub code_if : (line : ℕ) (e : Expr) (true_line : ℕ) (so : List Element) (other : Option Branch) → code_of db q (element.If line e true_line so other) ≡ (λ at. if_code e (codes_in db q so at) (codes_in_other db q other (plus at (counts_in so))))
+  pub code_if : (line : ℕ) (e : Expr) (true_line : ℕ) (so : List Element) (other : Option Branch) → code_of db q (element.If line e true_line so other) ≡ (λ at. if_code (resolved db q e) (codes_in db q so at) (codes_in_other db q other (plus at (counts_in so))))
   unfolding code_of
   code_if line e true_line so other =
       let there : (at : Counts) → other_codes (option_map (noted_branch Counts counts_of (Counts → Ops) (coded db q)) other) (plus at (all_in (coded_parts db q so))) ≡ codes_in_other db q other (plus at (counts_in so)) = λ at. ap (λ n. other_codes (option_map (noted_branch Counts counts_of (Counts → Ops) (coded db q)) other) (plus at n)) (all_counted so) ∙ other_is other (plus at (counts_in so)) in
       noted_if Counts counts_of (Counts → Ops) (coded db q) line e true_line so other
-      ∙ (λ i at. if_code e (codes_in db q so at) (there at i))
+      ∙ (λ i at. if_code (resolved db q e) (codes_in db q so at) (there at i))
 
-  pub code_assign : (line : ℕ) (name : Text) (value : Expr) → code_of db q (element.Assign line name value) ≡ (λ at. Assign (variable_at db name) value ∷ [])
+  pub code_assign : (line : ℕ) (name : Text) (value : Expr) → code_of db q (element.Assign line name value) ≡ (λ at. Assign (variable_at db name) (resolved db q value) ∷ [])
   unfolding code_of
   code_assign line name value = refl
 
-  pub code_update : (line : ℕ) (table : Text) (validity : Validity) (keep hit : Option ℕ) (keys : List UpdateKey) (row : List UpdateValue) → code_of db q (element.Update line table validity keep hit keys row) ≡ (λ at. Update (table_at db table) validity keep hit keys row ∷ [])
+  pub code_update : (line : ℕ) (table : Text) (validity : Validity) (keep hit : Option ℕ) (keys : List UpdateKey) (row : List UpdateValue) → code_of db q (element.Update line table validity keep hit keys row) ≡ (λ at. Update (update_code db q table validity keep hit keys row) ∷ [])
   unfolding code_of
   code_update line table validity keep hit keys row = refl
 
-  pub code_next : (line : ℕ) (proto : Expr) → code_of db q (element.NextProto line proto) ≡ (λ at. NextProto proto ∷ [])
+  pub code_next : (line : ℕ) (proto : Expr) → code_of db q (element.NextProto line proto) ≡ (λ at. NextProto (resolved db q proto) ∷ [])
   unfolding code_of
   code_next line proto = refl

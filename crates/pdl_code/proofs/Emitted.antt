@@ -6,7 +6,7 @@ use Rattle.db_model.specs.declared.element.Branch.{Branch}
 use Rattle.db_model.specs.declared.element.Case.{Case}
 use Rattle.db_model.specs.declared.element.Element.{Element}
 use Rattle.db_model.specs.declared.element.LoopKind.{LoopKind}
-use Rattle.db_model.specs.declared.expression.Expr.{Expr}
+use Rattle.expr_code.specs.declared.code.ExprCode.{ExprCode}
 use Rattle.db_model.specs.Numbering.{plus, a_block, counts_in}
 use Rattle.pdl_code.specs.declared.code.Op.TheVariants.{End, Jump, Test, Switch, Block, Loop}
 use Rattle.pdl_code.specs.declared.place.Place.{Place}
@@ -23,7 +23,7 @@ module _ (db : Database) (q : ℕ) where
     ops = f ∙ around_written (Block at.blocks) ops now (codes_in db q xs (counts inside)) start n s w.ops m ∙ ap (λ k. ops ++ around (Block at.blocks) (codes_in db q xs k)) e;
   }
 
-  pub loop_wrote : (xs : List Element) (kind : LoopKind) (value copy : Expr) (ops now new : Ops) (start n : ℕ) (at to : Place) → copy ≡ value → start ≡ length ops → Wrote (counts_in xs) (λ k. End ∷ ended (codes_in db q xs k)) ops now at to → n ≡ length now → new ≡ slice_set now start (Loop kind copy (n - start - 1)) → Wrote (counts_in xs) (λ k. around (Loop kind value) (codes_in db q xs k)) ops new at to
+  pub loop_wrote : (xs : List Element) (kind : LoopKind) (value copy : ExprCode) (ops now new : Ops) (start n : ℕ) (at to : Place) → copy ≡ value → start ≡ length ops → Wrote (counts_in xs) (λ k. End ∷ ended (codes_in db q xs k)) ops now at to → n ≡ length now → new ≡ slice_set now start (Loop kind copy (n - start - 1)) → Wrote (counts_in xs) (λ k. around (Loop kind value) (codes_in db q xs k)) ops new at to
   loop_wrote xs kind value copy ops now new start n at to v s w m f = record {
     place = w.place;
     ops = f ∙ around_written (Loop kind copy) ops now (codes_in db q xs (counts at)) start n s w.ops m ∙ ap (λ x. ops ++ around (Loop kind x) (codes_in db q xs (counts at))) v;
@@ -36,7 +36,7 @@ module _ (db : Database) (q : ℕ) where
     pub test_within : middle < length c4
     test_within = middle_within ops (codes_in db q so (counts at)) (codes_in_other db q other (counts between)) c1 c2 c3 c4 start middle s e1 w1.ops m e3 w2.ops
 
-    pub test_wrote : (v : Expr) (new : Ops) → new ≡ slice_set (slice_set c4 start (Test v (middle - start))) middle (Jump (length c4 - middle - 1)) → Wrote (plus (counts_in so) (counts_in_other other)) (λ k. if_code v (codes_in db q so k) (codes_in_other db q other (plus k (counts_in so)))) ops new at to
+    pub test_wrote : (v : ExprCode) (new : Ops) → new ≡ slice_set (slice_set c4 start (Test v (middle - start))) middle (Jump (length c4 - middle - 1)) → Wrote (plus (counts_in so) (counts_in_other other)) (λ k. if_code v (codes_in db q so k) (codes_in_other db q other (plus k (counts_in so)))) ops new at to
     test_wrote v new f = record {
       place = w2.place ∙ ap (λ k. plus k (counts_in_other other)) w1.place ∙ plus_assoc (counts at) (counts_in so) (counts_in_other other);
       ops = f ∙ if_written ops (codes_in db q so (counts at)) (codes_in_other db q other (counts between)) c1 c2 c3 c4 start middle s e1 w1.ops m e3 w2.ops v (length c4) refl ∙ ap (λ k. ops ++ if_code v (codes_in db q so (counts at)) (codes_in_other db q other k)) w1.place;
@@ -52,13 +52,13 @@ module _ (db : Database) (q : ℕ) where
     pub switch_ends : AllBelow (length c3) bodies.ends
     switch_ends = subst (λ l. AllBelow (length c3) l) (sym w1.end) (ends_within ops c1 c2 c3 (codes_in_other db q other (counts bodies.to)) (codes_in_cases db q cases (counts at)) start s e1 w1.ops w2.ops)
 
-    pub switch_wrote : (v : Expr) (new : Ops) → new ≡ slice_set (jumps_to (length c3) bodies.ends c3) start (Switch v (map case_range cases) bodies.begins (middle - start - 1)) → Wrote (plus (counts_in_cases cases) (counts_in_other other)) (λ k. switch_code v (map case_range cases) (codes_in_cases db q cases k) (codes_in_other db q other (plus k (counts_in_cases cases)))) ops new at to
+    pub switch_wrote : (v : ExprCode) (new : Ops) → new ≡ slice_set (jumps_to (length c3) bodies.ends c3) start (Switch v (record { ranges = map case_range cases; targets = bodies.begins; otherwise = middle - start - 1 })) → Wrote (plus (counts_in_cases cases) (counts_in_other other)) (λ k. switch_code v (map case_range cases) (codes_in_cases db q cases k) (codes_in_other db q other (plus k (counts_in_cases cases)))) ops new at to
     switch_wrote v new f = record {
       place = w2.place ∙ ap (λ k. plus k (counts_in_other other)) w1.place ∙ plus_assoc (counts at) (counts_in_cases cases) (counts_in_other other);
       ops =
           f
-          ∙ ap (λ l. slice_set (jumps_to (length c3) l c3) start (Switch v (map case_range cases) bodies.begins (middle - start - 1))) w1.end
-          ∙ ap (λ l. slice_set (jumps_to (length c3) (ends (length c1) (codes_in_cases db q cases (counts at))) c3) start (Switch v (map case_range cases) l (middle - start - 1))) w1.begin
+          ∙ ap (λ l. slice_set (jumps_to (length c3) l c3) start (Switch v (record { ranges = map case_range cases; targets = bodies.begins; otherwise = middle - start - 1 }))) w1.end
+          ∙ ap (λ l. slice_set (jumps_to (length c3) (ends (length c1) (codes_in_cases db q cases (counts at))) c3) start (Switch v (record { ranges = map case_range cases; targets = l; otherwise = middle - start - 1 }))) w1.begin
           ∙ switch_written ops c1 c2 c3 (codes_in_other db q other (counts bodies.to)) (codes_in_cases db q cases (counts at)) start s e1 w1.ops w2.ops v (map case_range cases) middle (jumps_to (length c3) (ends (length c1) (codes_in_cases db q cases (counts at))) c3) m refl
           ∙ ap (λ k. ops ++ switch_code v (map case_range cases) (codes_in_cases db q cases (counts at)) (codes_in_other db q other k)) w1.place;
     }

@@ -1,6 +1,7 @@
 pub mod Algebra
 pub mod Inversion
 pub mod Standing
+pub mod Expressions
 pub mod Pieces
 pub mod Choices
 pub mod Trees

@@ -10,7 +10,7 @@ use Rattle.db_model.specs.Elements.{parts, each, block_of, included}
 use Rattle.db_model.specs.Lines.{over, lines_of}
 use Rattle.db_model.specs.NameIndex.{block_number_at}
 use Rattle.db_model.specs.Names.{Text, place}
-use Rattle.db_model.specs.Numbering.{Counts, plus, a_block, counts_in, fields_in, blocks_in, field_names, BlockAt, block_from, block_at}
+use Rattle.db_model.specs.Numbering.{Counts, plus, a_block, counts_in, fields_in, blocks_in, names_at, field_names, BlockAt, block_from, block_at}
 use Rattle.db_model.specs.NumberFaults.{own_43}
 use Rattle.db_model.specs.Runs.{Run, next, block}
 use Rattle.db_model.proofs.Accepted.{append_front, append_back}
@@ -110,32 +110,32 @@ module _ (db : Database) (q : ℕ) (p : Protocol) (is : slice_get db.protocols q
   abbrev code : ProtoCode
   code = proto_code db q p
 
-  as_piece : (a b : Ops) (x y : Run) → b ≡ a → x ≡ y → Piece db (field_names p) code a x → Piece db (field_names p) code b y
-  as_piece a b x y e f d = subst (λ l. Piece db (field_names p) code l y) (sym e) (subst (λ r. Piece db (field_names p) code a r) f d)
+  as_piece : (a b : Ops) (x y : Run) → b ≡ a → x ≡ y → Piece db code a x → Piece db code b y
+  as_piece a b x y e f d = subst (λ l. Piece db code l y) (sym e) (subst (λ r. Piece db code a r) f d)
 
   -- an include of a block that isn't declared does nothing
-  of_none : (name : Text) (r : Run) → block_at p name ≡ None → next ≡ r → Included db q (field_names p) code (λ m. r) name
-  of_none name r e f = as_piece [] (include_of db q name) next r (include_is name None e) f (nothing db (field_names p) code)
+  of_none : (name : Text) (r : Run) → block_at p name ≡ None → next ≡ r → Included db q code (λ m. r) name
+  of_none name r e f = as_piece [] (include_of db q name) next r (include_is name None e) f (nothing db code)
 
   -- one that is declared runs its body, from its own place on
-  of_some : (name : Text) (b : BlockAt) (include : Text → Run) (r : Run) → block_at p name ≡ Some b → block_of db p include (Some b) ≡ r → Each (Included db q (field_names p) code include) (includes_in b.body) → Included db q (field_names p) code (λ m. r) name
+  of_some : (name : Text) (b : BlockAt) (include : Text → Run) (r : Run) → block_at p name ≡ Some b → block_of db p include (Some b) ≡ r → Each (Included db q code include) (includes_in b.body) → Included db q code (λ m. r) name
   of_some name b include r e f h =
       let s = stands name b e in
       let k = block_limits (counts_in (fields_in p.format)) (blocks_in p.format) (number_of name) b (sym (block_found (counts_in (fields_in p.format)) name (blocks_in p.format)) ∙ e) limits in
       let body : Run = each (parts db (field_names p) include b.body) (plus b.before a_block) in
-      let does : Does db (field_names p) code s.start.at body = to_end db (field_names p) code (codes_in db q b.body (plus b.before a_block)) body s.start.at (of_list db q (field_names p) code include b.body h k (plus b.before a_block)) s.code in
+      let does : Does db code s.start.at body = to_end db code (codes_in db q b.body (plus b.before a_block)) body s.start.at (of_list db q (field_names p) (ap names_at is) code include b.body h k (plus b.before a_block)) s.code in
       let named : block s.start.number body ≡ r = ap (λ n. block n body) s.number ∙ f in
-      as_piece (Include (number_of name) ∷ []) (include_of db q name) (block s.start.number body) r (include_is name (Some b) e) named (one_include db (field_names p) code (number_of name) s.start body s.found does)
+      as_piece (Include (number_of name) ∷ []) (include_of db q name) (block s.start.number body) r (include_is name (Some b) e) named (one_include db code (number_of name) s.start body s.found does)
 
   -- at each level that a name fits, the operations of its include do what it does
-  pub of_name : (n : ℕ) (name : Text) → Fits p n name → Included db q (field_names p) code (included db p n) name
+  pub of_name : (n : ℕ) (name : Text) → Fits p n name → Included db q code (included db p n) name
   of_name zero name h = by (block_at p name) refl h
     where
-      by : (o : Option BlockAt) → block_at p name ≡ o → Undeclared o → Included db q (field_names p) code (included db p zero) name
+      by : (o : Option BlockAt) → block_at p name ≡ o → Undeclared o → Included db q code (included db p zero) name
       by None e h = of_none name (included db p zero name) e (λ i z. next z)
       by (Some b) e h = absurd h
   of_name (suc n) name h = by (block_at p name) refl h (λ (m : Text) (k : Fits p n m). of_name n m k)
     where
-      by : (o : Option BlockAt) → block_at p name ≡ o → FitsBlock (Fits p n) o → ((m : Text) → Fits p n m → Included db q (field_names p) code (included db p n) m) → Included db q (field_names p) code (included db p (suc n)) name
+      by : (o : Option BlockAt) → block_at p name ≡ o → FitsBlock (Fits p n) o → ((m : Text) → Fits p n m → Included db q code (included db p n) m) → Included db q code (included db p (suc n)) name
       by None e h g = of_none name (included db p (suc n) name) e (λ i z. block_of db p (included db p n) (sym e i) z)
-      by (Some b) e h g = of_some name b (included db p n) (included db p (suc n) name) e (λ i z. block_of db p (included db p n) (sym e i) z) (each_map (Fits p n) (Included db q (field_names p) code (included db p n)) g (includes_in b.body) h)
+      by (Some b) e h g = of_some name b (included db p n) (included db p (suc n) name) e (λ i z. block_of db p (included db p n) (sym e i) z) (each_map (Fits p n) (Included db q code (included db p n)) g (includes_in b.body) h)

@@ -3,32 +3,30 @@ use Rattle.std.specs.Prelude.{◌≡◌, ℕ, ◌+◌, Bool, true, false, if◌t
 use Rattle.std.proofs.Common.{sym, subst, arith, length-append}
 use Rattle.db_model.specs.declared.database.Database.{Database}
 use Rattle.db_model.specs.declared.element.LoopKind.{LoopKind}
-use Rattle.db_model.specs.declared.expression.Expr.{Expr}
-use Rattle.db_model.specs.Elements.{number, loop_by}
 use Rattle.db_model.specs.Expression.{is_so}
-use Rattle.db_model.specs.Names.{Text}
 use Rattle.db_model.specs.Questions.{◌then◌}
 use Rattle.db_model.specs.Runs.{Run, next, go, evaluated, block}
+use Rattle.expr_code.specs.declared.code.ExprCode.{ExprCode}
 use Rattle.pdl_code.specs.declared.code.BlockStart.{BlockStart}
 use Rattle.pdl_code.specs.declared.code.Op.{Op}
 use Rattle.pdl_code.specs.declared.code.Op.TheVariants.{End, Jump, Block, Include, Loop}
 use Rattle.pdl_code.specs.declared.code.ProtoCode.{ProtoCode}
 use Rattle.pdl_code.specs.Coding.{Ops, ended, around, if_code}
-use Rattle.pdl_code.specs.Does.{IsPlain, act, Does, over, plain, jumps, tests, blocks, includes, loops}
+use Rattle.pdl_code.specs.Does.{IsPlain, number, loop_by, act, Does, over, plain, jumps, tests, blocks, includes, loops}
 use Rattle.pdl_code.proofs.Algebra.{next_go, go_next, go_assoc, evaluated_go}
 use Rattle.pdl_code.proofs.Standing.{HasAt, has_front, has_back, has_same}
 
-module _ (db : Database) (fields : List Text) (code : ProtoCode) where
+module _ (db : Database) (code : ProtoCode) where
   -- where these operations stand, they do this run, and then what stands behind them
   pub record Piece (ops : Ops) (p : Run) : Type 0 where
-    pub piece : (pc : ℕ) (r : Run) → HasAt code.ops pc ops → Does db fields code (pc + length ops) r → Does db fields code pc (p then go r)
+    pub piece : (pc : ℕ) (r : Run) → HasAt code.ops pc ops → Does db code (pc + length ops) r → Does db code pc (p then go r)
 
   -- the same place, and the same run, under other names
-  pub at_place : (m n : ℕ) (r : Run) → m ≡ n → Does db fields code m r → Does db fields code n r
-  at_place m n r e d = subst (λ k. Does db fields code k r) e d
+  pub at_place : (m n : ℕ) (r : Run) → m ≡ n → Does db code m r → Does db code n r
+  at_place m n r e d = subst (λ k. Does db code k r) e d
 
-  pub as_run : (pc : ℕ) (p r : Run) → p ≡ r → Does db fields code pc p → Does db fields code pc r
-  as_run pc p r e d = subst (λ q. Does db fields code pc q) e d
+  pub as_run : (pc : ℕ) (p r : Run) → p ≡ r → Does db code pc p → Does db code pc r
+  as_run pc p r e d = subst (λ q. Does db code pc q) e d
 
   pub nothing : Piece [] next
   nothing = record { piece = λ pc r h d. as_run pc r (next then go r) (sym (next_go r)) (at_place (pc + length {A = Op} []) pc r (omega arith) d) }
@@ -42,11 +40,11 @@ module _ (db : Database) (fields : List Text) (code : ProtoCode) where
   }
 
   -- one operation that goes on behind itself
-  pub one_plain : (o : Op) → IsPlain o → Piece (o ∷ []) (act db fields o)
+  pub one_plain : (o : Op) → IsPlain o → Piece (o ∷ []) (act db o)
   one_plain o p = record { piece = λ pc r h d. plain pc o r h.0 p (at_place (pc + length (o ∷ [])) (pc + 1 + 0) r (omega arith) d) }
 
   -- a whole body, to its end
-  pub to_end : (body : Ops) (p : Run) (pc : ℕ) → Piece body p → HasAt code.ops pc (ended body) → Does db fields code pc p
+  pub to_end : (body : Ops) (p : Run) (pc : ℕ) → Piece body p → HasAt code.ops pc (ended body) → Does db code pc p
   to_end body p pc x h =
       as_run pc (p then go next) p (go_next p)
       (x.piece pc next (has_front code.ops pc body (End ∷ []) h) (over (pc + length body) (has_back code.ops pc body (End ∷ []) h).0))
@@ -63,7 +61,7 @@ module _ (db : Database) (fields : List Text) (code : ProtoCode) where
         (at_place (pc + length (around (Block n) body)) (pc + 1 + (length body + 1)) r (around_length (Block n) body pc) d);
   }
 
-  pub one_loop : (kind : LoopKind) (e : Expr) (body : Ops) (p : Run) → Piece body p → Piece (around (Loop kind e) body) (loop_by db fields kind e p)
+  pub one_loop : (kind : LoopKind) (e : ExprCode) (body : Ops) (p : Run) → Piece body p → Piece (around (Loop kind e) body) (loop_by db kind e p)
   one_loop kind e body p x = record {
     piece = λ pc r h d.
         loops pc kind e (length body + 1) p r h.0
@@ -72,26 +70,26 @@ module _ (db : Database) (fields : List Text) (code : ProtoCode) where
   }
 
   -- an included block, whose body does its run from its own place on
-  pub one_include : (b : ℕ) (start : BlockStart) (p : Run) → slice_get code.blocks b ≡ Some start → Does db fields code start.at p → Piece (Include b ∷ []) (block start.number p)
+  pub one_include : (b : ℕ) (start : BlockStart) (p : Run) → slice_get code.blocks b ≡ Some start → Does db code start.at p → Piece (Include b ∷ []) (block start.number p)
   one_include b start p s body = record {
     piece = λ pc r h d.
         includes pc b start p r h.0 s body (at_place (pc + length (Include b ∷ [])) (pc + 1 + 0) r (omega arith) d);
   }
 
   -- one of two lists, by a test
-  either : (b : Bool) (pc to : ℕ) (p q r : Run) → Does db fields code (pc + 1 + 0) (p then go r) → Does db fields code (pc + 1 + to) (q then go r) → Does db fields code (pc + 1 + (if b then 0 else to)) ((if b then p else q) then go r)
+  either : (b : Bool) (pc to : ℕ) (p q r : Run) → Does db code (pc + 1 + 0) (p then go r) → Does db code (pc + 1 + to) (q then go r) → Does db code (pc + 1 + (if b then 0 else to)) ((if b then p else q) then go r)
   either true pc to p q r x y = x
   either false pc to p q r x y = y
 
-  pub one_test : (e : Expr) (so other : Ops) (p q : Run) → Piece so p → Piece other q → Piece (if_code e so other) (evaluated (number db fields e) (λ v. if is_so v then p else q))
+  pub one_test : (e : ExprCode) (so other : Ops) (p q : Run) → Piece so p → Piece other q → Piece (if_code e so other) (evaluated (number db e) (λ v. if is_so v then p else q))
   one_test e so other p q x y = record {
     piece = λ pc r h d.
         let length_is : pc + length (if_code e so other) ≡ pc + 1 + length so + 1 + length other = omega (arith, length-append so (Jump (length other) ∷ other)) in
-        let end : Does db fields code (pc + 1 + length so + 1 + length other) r = at_place (pc + length (if_code e so other)) (pc + 1 + length so + 1 + length other) r length_is d in
+        let end : Does db code (pc + 1 + length so + 1 + length other) r = at_place (pc + length (if_code e so other)) (pc + 1 + length so + 1 + length other) r length_is d in
         let tail = has_back code.ops (pc + 1) so (Jump (length other) ∷ other) h.1 in
-        let first : Does db fields code (pc + 1) (p then go r) = x.piece (pc + 1) r (has_front code.ops (pc + 1) so (Jump (length other) ∷ other) h.1) (jumps (pc + 1 + length so) (length other) r tail.0 end) in
-        let second : Does db fields code (pc + 1 + length so + 1) (q then go r) = y.piece (pc + 1 + length so + 1) r tail.1 end in
-        as_run pc (evaluated (number db fields e) (λ v. (if is_so v then p else q) then go r)) (evaluated (number db fields e) (λ v. if is_so v then p else q) then go r) (sym (evaluated_go (number db fields e) (λ v. if is_so v then p else q) r))
+        let first : Does db code (pc + 1) (p then go r) = x.piece (pc + 1) r (has_front code.ops (pc + 1) so (Jump (length other) ∷ other) h.1) (jumps (pc + 1 + length so) (length other) r tail.0 end) in
+        let second : Does db code (pc + 1 + length so + 1) (q then go r) = y.piece (pc + 1 + length so + 1) r tail.1 end in
+        as_run pc (evaluated (number db e) (λ v. (if is_so v then p else q) then go r)) (evaluated (number db e) (λ v. if is_so v then p else q) then go r) (sym (evaluated_go (number db e) (λ v. if is_so v then p else q) r))
         (tests pc e (length so + 1) (λ v. (if is_so v then p else q) then go r) h.0 (λ v.
         either (is_so v) pc (length so + 1) p q r (at_place (pc + 1) (pc + 1 + 0) (p then go r) (omega arith) first) (at_place (pc + 1 + length so + 1) (pc + 1 + (length so + 1)) (q then go r) (omega arith) second)));
   }

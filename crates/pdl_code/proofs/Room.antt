@@ -4,7 +4,7 @@ use Rattle.std.proofs.Common.{refl, sym, ap, subst, ◌∙◌, arith, append_ass
 use Rattle.std.proofs.Math.Seq.{set-append_seam}
 use Rattle.db_model.specs.declared.database.Database.{Database}
 use Rattle.db_model.specs.declared.element.Element.{Element}
-use Rattle.db_model.specs.declared.expression.Expr.{Expr}
+use Rattle.expr_code.specs.declared.code.ExprCode.{ExprCode}
 use Rattle.db_model.specs.declared.field_kind.CaseRange.{CaseRange}
 use Rattle.db_model.specs.declared.no_memory.NoMemory.{NoMemory}
 use Rattle.db_model.specs.Numbering.{Counts, none, counts_of}
@@ -71,7 +71,7 @@ module _ (base so other c1 c2 c3 c4 : Ops) (start middle : ℕ) (s : start ≡ l
   pub start_first : start ≤ middle
   start_first = omega (arith, l1, l2, s, m)
 
-  pub if_written : (v : Expr) (end : ℕ) → end ≡ length c4 → slice_set (slice_set c4 start (Test v (middle - start))) middle (Jump (end - middle - 1)) ≡ base ++ if_code v so other
+  pub if_written : (v : ExprCode) (end : ℕ) → end ≡ length c4 → slice_set (slice_set c4 start (Test v (middle - start))) middle (Jump (end - middle - 1)) ≡ base ++ if_code v so other
   if_written v end n =
       let i = Test v (middle - start) in
       let j = Jump (end - middle - 1) in
@@ -149,10 +149,10 @@ module _ (base c1 c2 c3 other : Ops) (cases : List Ops) (start : ℕ) (s : start
   pub switch_within : start < length c3
   switch_within = omega (arith, k1, k2, k3, s)
 
-  pub switch_written : (v : Expr) (ranges : List CaseRange) (middle : ℕ) (c4 : Ops) → middle ≡ length c2 → c4 ≡ jumps_to (length c3) (ends (length c1) cases) c3 → slice_set c4 start (Switch v ranges (begins 0 cases) (middle - start - 1)) ≡ base ++ switch_code v ranges cases other
+  pub switch_written : (v : ExprCode) (ranges : List CaseRange) (middle : ℕ) (c4 : Ops) → middle ≡ length c2 → c4 ≡ jumps_to (length c3) (ends (length c1) cases) c3 → slice_set c4 start (Switch v (record { ranges = ranges; targets = begins 0 cases; otherwise = middle - start - 1 })) ≡ base ++ switch_code v ranges cases other
   switch_written v ranges middle c4 m e4 =
       let last : Ops = bodies cases (length other) ++ other in
-      let op : Op = Switch v ranges (begins 0 cases) (middle - start - 1) in
+      let op : Op = Switch v (record { ranges = ranges; targets = begins 0 cases; otherwise = middle - start - 1 }) in
       let whole : c3 ≡ (base ++ End ∷ []) ++ (open_bodies cases ++ other) = e3 ∙ ap (λ l. l ++ other) (e2 ∙ ap (λ l. l ++ open_bodies cases) e1) ∙ append_assoc (base ++ End ∷ []) (open_bodies cases) other in
       let first : length c1 ≡ length (base ++ End ∷ []) = ap length e1 in
       let written : c4 ≡ (base ++ End ∷ []) ++ last =
@@ -162,4 +162,4 @@ module _ (base c1 c2 c3 other : Ops) (cases : List Ops) (start : ℕ) (s : start
       ap (λ l. slice_set l start op) (written ∙ append_assoc base (End ∷ []) last)
       ∙ ap (λ k. slice_set (base ++ End ∷ last) k op) s
       ∙ set-append_seam base End last op
-      ∙ ap (λ k. base ++ Switch v ranges (begins 0 cases) k ∷ last) d
+      ∙ ap (λ k. base ++ Switch v (record { ranges = ranges; targets = begins 0 cases; otherwise = k }) ∷ last) d

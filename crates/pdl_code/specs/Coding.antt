@@ -16,11 +16,18 @@ use Rattle.db_model.specs.Folds.{Noted, CaseOf, BranchOf, ElementOf, noted_eleme
 use Rattle.db_model.specs.Forms.{is_between}
 use Rattle.db_model.specs.NameIndex.{block_number_at}
 use Rattle.db_model.specs.Names.{Text, variable_at, table_at}
-use Rattle.db_model.specs.Numbering.{Counts, none, plus, a_block, counts_of, counts_in, fields_in, blocks_in}
+use Rattle.db_model.specs.Numbering.{Counts, none, plus, a_block, counts_of, counts_in, fields_in, blocks_in, names_of_protocol}
+use Rattle.db_model.specs.declared.element.UpdateKey.{UpdateKey}
+use Rattle.db_model.specs.declared.element.UpdateValue.{UpdateValue}
+use Rattle.db_model.specs.declared.entry.Validity.{Validity}
+use Rattle.expr_code.specs.Code as expression
+use Rattle.expr_code.specs.declared.code.ExprCode.{ExprCode}
 use Rattle.pdl_code.specs.declared.code.BlockStart.{BlockStart}
+use Rattle.pdl_code.specs.declared.code.KeyCode.{KeyCode}
 use Rattle.pdl_code.specs.declared.code.Op.{Op}
 use Rattle.pdl_code.specs.declared.code.Op.TheVariants.{End, Field, SizedField, Assign, Update, NextProto, Leave, Jump, Test, Switch, Block, Include, Loop}
 use Rattle.pdl_code.specs.declared.code.ProtoCode.{ProtoCode}
+use Rattle.pdl_code.specs.declared.code.UpdateCode.{UpdateCode}
 
 abbrev pub Ops : Type 0
 Ops = List Op
@@ -54,7 +61,7 @@ abbrev pub around : (ℕ → Op) → Ops → Ops
 around o body = o (length body + 1) ∷ ended body
 
 -- a test: it skips the one list where its value is 0, and that list skips the other
-abbrev pub if_code : Expr → Ops → Ops → Ops
+abbrev pub if_code : ExprCode → Ops → Ops → Ops
 if_code e so other = Test e (length so + 1) ∷ (so ++ Jump (length other) ∷ other)
 
 -- the bodies of cases, each of which skips those behind it and so many operations more
@@ -68,8 +75,8 @@ begins from [] = []
 begins from (b ∷ bs) = from ∷ begins (from + length b + 1) bs
 
 -- a switch: its operation, the bodies of the cases, and that of the default
-abbrev pub switch_code : Expr → List CaseRange → List Ops → Ops → Ops
-switch_code e ranges cases other = Switch e ranges (begins 0 cases) (length (bodies cases (length other))) ∷ (bodies cases (length other) ++ other)
+abbrev pub switch_code : ExprCode → List CaseRange → List Ops → Ops → Ops
+switch_code e ranges cases other = Switch e (record { ranges = ranges; targets = begins 0 cases; otherwise = length (bodies cases (length other)) }) ∷ (bodies cases (length other) ++ other)
 
 abbrev pub range_of : {A : Type 0} → CaseOf A → CaseRange
 range_of c = record { low = c.value; high = c.maxvalue }
@@ -85,15 +92,6 @@ behind_cases (c ∷ cs) at = behind_cases cs (plus at (all_in c.body))
 
 -- ---- elements
 
--- a field; a variable one has its size
-abbrev pub field_op : FieldForm → ℕ → Op
-field_op (form.Fixed s) n = Field n (kind_of (form.Fixed s))
-field_op (form.Bit s mask) n = Field n (kind_of (form.Bit s mask))
-field_op (form.Variable e) n = SizedField n e
-field_op (form.TokenEnded token) n = Field n (kind_of (form.TokenEnded token))
-field_op form.Line n = Field n (kind_of form.Line)
-field_op (form.Padding align) n = Field n (kind_of (form.Padding align))
-
 -- a field of this form can be read; a database without faults has no other
 abbrev pub is_sound : FieldForm → Bool
 is_sound (form.Fixed s) = true
@@ -102,9 +100,6 @@ is_sound (form.Variable e) = true
 is_sound (form.TokenEnded token) = true
 is_sound form.Line = true
 is_sound (form.Padding align) = is_between LEAST_ALIGNMENT MOST_ALIGNMENT align
-
-abbrev pub field_code : FieldForm → ℕ → Ops
-field_code f n = if is_sound f then field_op f n ∷ [] else []
 
 -- how many named blocks a protocol has
 abbrev pub block_count : Option Protocol → ℕ
@@ -117,6 +112,28 @@ include_code declared b = if nat_lt b declared then Include b ∷ [] else []
 
 -- in the protocol of this number
 module _ (db : Database) (q : ℕ) where
+  -- the code of an expression, whose fields are those of the protocol
+  abbrev pub resolved : Expr → ExprCode
+  resolved e = expression.code_of db (names_of_protocol db q) e
+
+  abbrev pub key_code : UpdateKey → KeyCode
+  key_code k = record { value = resolved k.value; mask = k.mask }
+
+  abbrev pub update_code : Text → Validity → Option ℕ → Option ℕ → List UpdateKey → List UpdateValue → UpdateCode
+  update_code table validity keep hit keys row = record { table = table_at db table; validity = validity; keep = keep; hit = hit; keys = map key_code keys; row = map (λ v. resolved v.value) row }
+
+  -- a field; a variable one has its size
+  abbrev pub field_op : FieldForm → ℕ → Op
+  field_op (form.Fixed s) n = Field n (kind_of (form.Fixed s))
+  field_op (form.Bit s mask) n = Field n (kind_of (form.Bit s mask))
+  field_op (form.Variable e) n = SizedField n (resolved e)
+  field_op (form.TokenEnded token) n = Field n (kind_of (form.TokenEnded token))
+  field_op form.Line n = Field n (kind_of form.Line)
+  field_op (form.Padding align) n = Field n (kind_of (form.Padding align))
+
+  abbrev pub field_code : FieldForm → ℕ → Ops
+  field_code f n = if is_sound f then field_op f n ∷ [] else []
+
   abbrev pub include_of : Text → Ops
   include_of name = include_code (block_count (slice_get db.protocols q)) (block_number_at (slice_get db.protocols q) name)
 
@@ -125,13 +142,13 @@ module _ (db : Database) (q : ℕ) where
   coded (layer.Field line name f longname show) at = field_code f at.fields
   coded (layer.Block line name longname body) at = around (Block at.blocks) (codes body (plus at a_block))
   coded (layer.IncludeBlock line name) at = include_of name
-  coded (layer.Loop line k e body) at = around (Loop k e) (codes body at)
+  coded (layer.Loop line k e body) at = around (Loop k (resolved e)) (codes body at)
   coded (layer.LoopCtrl line c) at = Leave c ∷ []
-  coded (layer.Switch line e cases other) at = switch_code e (map range_of cases) (case_codes cases at) (other_codes other (behind_cases cases at))
-  coded (layer.If line e true_line so other) at = if_code e (codes so at) (other_codes other (plus at (all_in so)))
-  coded (layer.Assign line name e) at = Assign (variable_at db name) e ∷ []
-  coded (layer.Update line table validity keep hit keys row) at = Update (table_at db table) validity keep hit keys row ∷ []
-  coded (layer.NextProto line e) at = NextProto e ∷ []
+  coded (layer.Switch line e cases other) at = switch_code (resolved e) (map range_of cases) (case_codes cases at) (other_codes other (behind_cases cases at))
+  coded (layer.If line e true_line so other) at = if_code (resolved e) (codes so at) (other_codes other (plus at (all_in so)))
+  coded (layer.Assign line name e) at = Assign (variable_at db name) (resolved e) ∷ []
+  coded (layer.Update line table validity keep hit keys row) at = Update (update_code table validity keep hit keys row) ∷ []
+  coded (layer.NextProto line e) at = NextProto (resolved e) ∷ []
 
   -- the operations of an element
   unfoldable pub code_of : Element → Counts → Ops

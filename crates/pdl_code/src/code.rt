@@ -1,6 +1,33 @@
 use crate::{Ranges, SoundKind};
-use db_model::{Expr, LoopControl, LoopKind, UpdateKey, UpdateValue, Validity};
+use db_model::{Bytes, LoopControl, LoopKind, Validity};
+use expr_code::ExprCode;
 use sqlite_items::Items;
+
+/// A key of an update.
+#[derive(Drop)]
+pub struct KeyCode {
+    pub value: ExprCode,
+    pub mask: Option<Bytes>,
+}
+
+/// The entry that an update adds to the table of this number. `keep` and `hit` are seconds.
+#[derive(Drop)]
+pub struct UpdateCode {
+    pub table: usize,
+    pub validity: Validity,
+    pub keep: Option<u32>,
+    pub hit: Option<u32>,
+    pub keys: Items<KeyCode>,
+    pub row: Items<ExprCode>,
+}
+
+/// Where a switch jumps: to the target of the first range that holds its value, which has the range's place.
+#[derive(Drop)]
+pub struct Choice {
+    pub ranges: Ranges,
+    pub targets: Items<usize>,
+    pub otherwise: usize,
+}
 
 /// One step of a list of elements. Each list ends with `End`. What an operation names is a number: of a field, a
 /// block, a variable or a table, in the order of declaration, from 0. `to`, `after`, the targets and `otherwise`
@@ -17,23 +44,15 @@ pub enum Op {
     /// A field whose size in bytes is a value.
     SizedField {
         number: u32,
-        size: Expr,
+        size: ExprCode,
     },
     Assign {
         variable: usize,
-        value: Expr,
+        value: ExprCode,
     },
-    /// `keep` and `hit` are seconds.
-    Update {
-        table: usize,
-        validity: Validity,
-        keep: Option<u32>,
-        hit: Option<u32>,
-        keys: Items<UpdateKey>,
-        row: Items<UpdateValue>,
-    },
+    Update(UpdateCode),
     NextProto {
-        value: Expr,
+        value: ExprCode,
     },
     /// Leaves the turn of the innermost loop, and on `Break` the loop.
     Leave {
@@ -44,15 +63,12 @@ pub enum Op {
     },
     /// Jumps where the value is 0.
     Test {
-        value: Expr,
+        value: ExprCode,
         to: usize,
     },
-    /// Jumps to the target of the first range that holds the value, which has the range's place.
     Switch {
-        value: Expr,
-        ranges: Ranges,
-        targets: Items<usize>,
-        otherwise: usize,
+        value: ExprCode,
+        choice: Choice,
     },
     /// A block, whose body stands behind it.
     Block {
@@ -66,7 +82,7 @@ pub enum Op {
     /// A loop, whose body stands behind it.
     Loop {
         kind: LoopKind,
-        value: Expr,
+        value: ExprCode,
         after: usize,
     },
 }

@@ -4,14 +4,16 @@
 
 ghost use Rattle.std.specs.Prelude.{◌∷◌, IfOk};
 ghost use Rattle.db_model.specs.Numbering.{plus, a_block, counts_of, counts_in};
-ghost use Rattle.pdl_code.specs.Coding.{ended, around, code_of, codes_in};
+ghost use Rattle.pdl_code.specs.Coding;
+ghost use Rattle.pdl_code.specs.Coding.{ended, around, codes_in, resolved};
 ghost use Rattle.pdl_code.specs.Parts.{Wrote, WroteBodies, counts, counts_in_cases, counts_in_other, codes_in_cases, codes_in_other};
 ghost use Rattle.pdl_code.specs.declared.code.Op.TheVariants as op;
 
 use crate::place::Place;
 use crate::written::{Bodies, write_switch, write_test};
-use crate::{Op, copy, leaf};
+use crate::{Op, leaf};
 use db_model::{Branch, Case, CheckedDb, Element, Expr, LoopKind, NoMemory};
+use expr_code::code_of;
 use sqlite_items::Items;
 use std::alloc::Global;
 
@@ -19,15 +21,15 @@ use std::alloc::Global;
 fn element(
     alloc: Global,
     db: &CheckedDb,
-    protocol: usize,
+    protocol: u16,
     x: &Element,
     at: Place,
     ops: &mut Items<Op>,
 ) -> Result<Place, NoMemory>
-    ensures { IfOk result (λ to. Wrote (counts_of x.now) (code_of db.now protocol x.now) ops.old ops.new at to) }
+    ensures { IfOk result (λ to. Wrote (counts_of x.now) (Coding.code_of db.now protocol x.now) ops.old ops.new at to) }
 {
     match x {
-        Element::Field { form, .. } => leaf::field(alloc, form, at, ops),
+        Element::Field { form, .. } => leaf::field(alloc, db, protocol, form, at, ops),
         Element::Block { body, .. } => block(alloc, db, protocol, body.as_slice(), at, ops),
         Element::IncludeBlock { name, .. } => leaf::include(db, protocol, name, at, ops),
         Element::Loop {
@@ -48,7 +50,17 @@ fn element(
             let bodies = bodies(alloc, db, protocol, cases.as_slice(), at, ops)?;
             let middle = ops.len();
             let to = other(alloc, db, protocol, otherwise, bodies.to, ops)?;
-            write_switch(alloc, expr, cases.as_slice(), bodies, start, middle, ops)?;
+            write_switch(
+                alloc,
+                db,
+                protocol,
+                expr,
+                cases.as_slice(),
+                bodies,
+                start,
+                middle,
+                ops,
+            )?;
             Ok(to)
         }
         Element::If {
@@ -63,10 +75,12 @@ fn element(
             let middle = ops.len();
             ops.push(Op::End)?;
             let to = other(alloc, db, protocol, if_false, behind, ops)?;
-            write_test(alloc, expr, start, middle, ops)?;
+            write_test(alloc, db, protocol, expr, start, middle, ops)?;
             Ok(to)
         }
-        Element::Assign { name, value, .. } => leaf::assign(alloc, db, name, value, at, ops),
+        Element::Assign { name, value, .. } => leaf::assign(
+            alloc, db, protocol, name, value, at, ops,
+        ),
         Element::Update {
             table,
             validity,
@@ -78,6 +92,7 @@ fn element(
         } => leaf::update(
             alloc,
             db,
+            protocol,
             table,
             *validity,
             *keep,
@@ -87,7 +102,7 @@ fn element(
             at,
             ops,
         ),
-        Element::NextProto { proto, .. } => leaf::next_proto(alloc, proto, at, ops),
+        Element::NextProto { proto, .. } => leaf::next_proto(alloc, db, protocol, proto, at, ops),
     }
 }
 
@@ -96,7 +111,7 @@ fn element(
 pub fn list(
     alloc: Global,
     db: &CheckedDb,
-    protocol: usize,
+    protocol: u16,
     xs: &[Element],
     at: Place,
     ops: &mut Items<Op>,
@@ -115,7 +130,7 @@ pub fn list(
 fn body(
     alloc: Global,
     db: &CheckedDb,
-    protocol: usize,
+    protocol: u16,
     xs: &[Element],
     at: Place,
     ops: &mut Items<Op>,
@@ -132,7 +147,7 @@ fn body(
 fn block(
     alloc: Global,
     db: &CheckedDb,
-    protocol: usize,
+    protocol: u16,
     xs: &[Element],
     at: Place,
     ops: &mut Items<Op>,
@@ -157,18 +172,18 @@ fn block(
 fn looped(
     alloc: Global,
     db: &CheckedDb,
-    protocol: usize,
+    protocol: u16,
     xs: &[Element],
     kind: LoopKind,
     value: &Expr,
     at: Place,
     ops: &mut Items<Op>,
 ) -> Result<Place, NoMemory>
-    ensures { IfOk result (λ to. Wrote (counts_in xs.now) (λ n. around (op.Loop kind value.now) (codes_in db.now protocol xs.now n)) ops.old ops.new at to) }
+    ensures { IfOk result (λ to. Wrote (counts_in xs.now) (λ n. around (op.Loop kind (resolved db.now protocol value.now)) (codes_in db.now protocol xs.now n)) ops.old ops.new at to) }
 {
     let start = ops.len();
     let to = body(alloc, db, protocol, xs, at, ops)?;
-    let value = copy::expr(alloc, value)?;
+    let value = code_of(alloc, value, db, protocol)?;
     let after = ops.len() - start - 1;
     ops.set(start, Op::Loop { kind, value, after });
     Ok(to)
@@ -179,7 +194,7 @@ fn looped(
 fn bodies(
     alloc: Global,
     db: &CheckedDb,
-    protocol: usize,
+    protocol: u16,
     cases: &[Case],
     at: Place,
     ops: &mut Items<Op>,
@@ -204,7 +219,7 @@ fn bodies(
 fn other(
     alloc: Global,
     db: &CheckedDb,
-    protocol: usize,
+    protocol: u16,
     branch: &Option<Branch>,
     at: Place,
     ops: &mut Items<Op>,

@@ -1,17 +1,18 @@
 //! The operations of elements in which no others stand.
 
 ghost use Rattle.std.specs.Prelude.{◌≡◌, [], ◌∷◌, true, slice_get, IfOk};
-ghost use Rattle.db_model.specs.Names.{variable_at, table_at};
+ghost use Rattle.db_model.specs.Names.{variable_at};
 ghost use Rattle.db_model.specs.Numbering.{none, a_field};
-ghost use Rattle.pdl_code.specs.Coding.{is_sound, field_op, field_code, block_count, include_of};
+ghost use Rattle.pdl_code.specs.Coding.{is_sound, field_op, field_code, block_count, include_of, resolved, update_code};
 ghost use Rattle.pdl_code.specs.Parts.{Wrote};
 
 use crate::place::Place;
-use crate::{Op, SoundKind, copy};
+use crate::{Op, SoundKind, UpdateCode, entry};
 use db_model::{
     CheckedDb, Expr, FieldForm, FieldKind, LEAST_ALIGNMENT, MOST_ALIGNMENT, MOST_BIT_SIZE, Name,
     NoMemory, Protocol, UpdateKey, UpdateValue, Validity,
 };
+use expr_code::code_of;
 use sqlite_items::Items;
 use std::alloc::Global;
 
@@ -30,9 +31,15 @@ fn is_sound(form: &FieldForm) -> bool
     }
 }
 
-fn field_op(alloc: Global, form: &FieldForm, number: u32) -> Result<Op, NoMemory>
+fn field_op(
+    alloc: Global,
+    db: &CheckedDb,
+    protocol: u16,
+    form: &FieldForm,
+    number: u32,
+) -> Result<Op, NoMemory>
     requires { is_sound form.now ≡ true }
-    ensures { IfOk result (λ o. o ≡ field_op form.now number) }
+    ensures { IfOk result (λ o. o ≡ field_op db.now protocol form.now number) }
 {
     match form {
         FieldForm::Fixed { size } => Ok(Op::Field {
@@ -48,7 +55,7 @@ fn field_op(alloc: Global, form: &FieldForm, number: u32) -> Result<Op, NoMemory
         }),
         FieldForm::Variable { expr } => Ok(Op::SizedField {
             number,
-            size: copy::expr(alloc, expr)?,
+            size: code_of(alloc, expr, db, protocol)?,
         }),
         FieldForm::TokenEnded { token } => Ok(Op::Field {
             number,
@@ -68,17 +75,19 @@ fn field_op(alloc: Global, form: &FieldForm, number: u32) -> Result<Op, NoMemory
 /// A field; nothing where it can't be read.
 pub fn field(
     alloc: Global,
+    db: &CheckedDb,
+    protocol: u16,
     form: &FieldForm,
     at: Place,
     ops: &mut Items<Op>,
 ) -> Result<Place, NoMemory>
-    ensures { IfOk result (λ to. Wrote a_field (λ n. field_code form.now n.fields) ops.old ops.new at to) }
+    ensures { IfOk result (λ to. Wrote a_field (λ n. field_code db.now protocol form.now n.fields) ops.old ops.new at to) }
 {
     let to = at.behind_field()?;
     if !is_sound(form) {
         return Ok(to);
     }
-    ops.push(field_op(alloc, form, at.fields)?)?;
+    ops.push(field_op(alloc, db, protocol, form, at.fields)?)?;
     Ok(to)
 }
 
@@ -91,10 +100,10 @@ pub fn put(op: Op, at: Place, ops: &mut Items<Op>) -> Result<Place, NoMemory>
 }
 
 /// How many named blocks the protocol of this number has.
-fn block_count(db: &CheckedDb, protocol: usize) -> usize
+fn block_count(db: &CheckedDb, protocol: u16) -> usize
     ensures { result ≡ block_count (slice_get db.now.protocols protocol) }
 {
-    match db.database().protocols.get(protocol) {
+    match db.database().protocols.get(protocol as usize) {
         Some(protocol) => count_of(protocol),
         None => 0,
     }
@@ -112,14 +121,14 @@ fn count_of(protocol: &Protocol) -> usize
 /// An included block; nothing where it isn't declared.
 pub fn include(
     db: &CheckedDb,
-    protocol: usize,
+    protocol: u16,
     name: &Name,
     at: Place,
     ops: &mut Items<Op>,
 ) -> Result<Place, NoMemory>
     ensures { IfOk result (λ to. Wrote none (λ n. include_of db.now protocol name.now) ops.old ops.new at to) }
 {
-    let block = db.block_at(protocol, name.as_slice());
+    let block = db.block_at(protocol as usize, name.as_slice());
     if block < block_count(db, protocol) {
         return put(Op::Include { block }, at, ops);
     }
@@ -129,21 +138,23 @@ pub fn include(
 pub fn assign(
     alloc: Global,
     db: &CheckedDb,
+    protocol: u16,
     name: &Name,
     value: &Expr,
     at: Place,
     ops: &mut Items<Op>,
 ) -> Result<Place, NoMemory>
-    ensures { IfOk result (λ to. Wrote none (λ n. Op.Assign (variable_at db.now name.now) value.now ∷ []) ops.old ops.new at to) }
+    ensures { IfOk result (λ to. Wrote none (λ n. Op.Assign (variable_at db.now name.now) (resolved db.now protocol value.now) ∷ []) ops.old ops.new at to) }
 {
     let variable = db.variable_at(name.as_slice());
-    let value = copy::expr(alloc, value)?;
+    let value = code_of(alloc, value, db, protocol)?;
     put(Op::Assign { variable, value }, at, ops)
 }
 
 pub fn update(
     alloc: Global,
     db: &CheckedDb,
+    protocol: u16,
     table: &Name,
     validity: Validity,
     keep: Option<u32>,
@@ -153,12 +164,12 @@ pub fn update(
     at: Place,
     ops: &mut Items<Op>,
 ) -> Result<Place, NoMemory>
-    ensures { IfOk result (λ to. Wrote none (λ n. Op.Update (table_at db.now table.now) validity keep hit keys.now row.now ∷ []) ops.old ops.new at to) }
+    ensures { IfOk result (λ to. Wrote none (λ n. Op.Update (update_code db.now protocol table.now validity keep hit keys.now row.now) ∷ []) ops.old ops.new at to) }
 {
     let table = db.table_at(table.as_slice());
-    let keys = copy::keys(alloc, keys)?;
-    let row = copy::row(alloc, row)?;
-    let op = Op::Update {
+    let keys = entry::keys(alloc, db, protocol, keys)?;
+    let row = entry::row(alloc, db, protocol, row)?;
+    let update = UpdateCode {
         table,
         validity,
         keep,
@@ -166,17 +177,19 @@ pub fn update(
         keys,
         row,
     };
-    put(op, at, ops)
+    put(Op::Update(update), at, ops)
 }
 
 pub fn next_proto(
     alloc: Global,
+    db: &CheckedDb,
+    protocol: u16,
     value: &Expr,
     at: Place,
     ops: &mut Items<Op>,
 ) -> Result<Place, NoMemory>
-    ensures { IfOk result (λ to. Wrote none (λ n. Op.NextProto value.now ∷ []) ops.old ops.new at to) }
+    ensures { IfOk result (λ to. Wrote none (λ n. Op.NextProto (resolved db.now protocol value.now) ∷ []) ops.old ops.new at to) }
 {
-    let value = copy::expr(alloc, value)?;
+    let value = code_of(alloc, value, db, protocol)?;
     put(Op::NextProto { value }, at, ops)
 }

@@ -4,14 +4,14 @@
 #![tactic(auto)]
 
 mod code;
-mod copy;
 mod emit;
+mod entry;
 mod leaf;
 mod place;
 mod protocols;
 mod sound;
 mod written;
 
-pub use code::{BlockStart, Code, Op, ProtoCode};
+pub use code::{BlockStart, Choice, Code, KeyCode, Op, ProtoCode, UpdateCode};
 pub use protocols::compile;
 pub use sound::{Ranges, SoundKind};

@@ -21,7 +21,7 @@ pub fn compile(alloc: Global, db: &CheckedDb) -> Result<Code, NoMemory>
     let declared = db.database().protocols.as_slice();
     let mut protocols = Items::new(alloc);
     for (number, protocol) in declared.iter().enumerate() {
-        protocols.push(of_protocol(alloc, db, number, protocol)?)?;
+        protocols.push(of_protocol(alloc, db, number as u16, protocol)?)?;
     }
     Ok(Code { protocols })
 }
@@ -29,7 +29,7 @@ pub fn compile(alloc: Global, db: &CheckedDb) -> Result<Code, NoMemory>
 fn of_protocol(
     alloc: Global,
     db: &CheckedDb,
-    number: usize,
+    number: u16,
     protocol: &Protocol,
 ) -> Result<ProtoCode, NoMemory>
     ensures { IfOk result (λ c. c ≡ proto_code db.now number protocol.now) }
@@ -44,7 +44,7 @@ fn of_protocol(
 fn own_list(
     alloc: Global,
     db: &CheckedDb,
-    number: usize,
+    number: u16,
     protocol: &Protocol,
     ops: &mut Items<Op>,
 ) -> Result<Place, NoMemory>
@@ -63,7 +63,7 @@ fn own_list(
 fn named(
     alloc: Global,
     db: &CheckedDb,
-    number: usize,
+    number: u16,
     blocks: &[NamedBlock],
     at: Place,
     ops: &mut Items<Op>,

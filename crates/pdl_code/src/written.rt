@@ -1,11 +1,13 @@
 //! Room for operations that can be written only once what stands behind them is known.
 
 ghost use Rattle.std.specs.Prelude.{◌≡◌, ◌<◌, ◌≤◌, ◌-◌, ◌++◌, ◌∷◌, [], map, length, slice_set, IfOk, OnOk};
+ghost use Rattle.pdl_code.specs.Coding.{resolved};
 ghost use Rattle.pdl_code.specs.Parts.{case_range, jumps_to, AllBelow};
 
 use crate::place::Place;
-use crate::{Op, Ranges, copy};
-use db_model::{Case, CaseRange, Expr, NoMemory};
+use crate::{Choice, Op, Ranges};
+use db_model::{Case, CaseRange, CheckedDb, Expr, NoMemory};
+use expr_code::code_of;
 use sqlite_items::Items;
 use std::alloc::Global;
 
@@ -21,6 +23,8 @@ pub struct Bodies {
 /// Writes a test and the jump behind what it does where its value isn't 0.
 pub fn write_test(
     alloc: Global,
+    db: &CheckedDb,
+    protocol: u16,
     value: &Expr,
     start: usize,
     middle: usize,
@@ -28,9 +32,9 @@ pub fn write_test(
 ) -> Result<(), NoMemory>
     requires order { start ≤ middle }
     requires within { middle < length ops.old }
-    ensures { OnOk result (ops.new ≡ slice_set (slice_set ops.old start (Op.Test value.now (middle - start))) middle (Op.Jump (length ops.old - middle - 1))) }
+    ensures { OnOk result (ops.new ≡ slice_set (slice_set ops.old start (Op.Test (resolved db.now protocol value.now) (middle - start))) middle (Op.Jump (length ops.old - middle - 1))) }
 {
-    let value = copy::expr(alloc, value)?;
+    let value = code_of(alloc, value, db, protocol)?;
     let end = ops.len();
     ops.set(
         start,
@@ -51,6 +55,8 @@ pub fn write_test(
 /// Writes a switch, and the jumps behind the bodies of its cases. `middle` is where the default begins.
 pub fn write_switch(
     alloc: Global,
+    db: &CheckedDb,
+    protocol: u16,
     value: &Expr,
     cases: &[Case],
     bodies: Bodies,
@@ -61,18 +67,17 @@ pub fn write_switch(
     requires order { start < middle }
     requires within { start < length ops.old }
     requires ends { AllBelow (length ops.old) bodies.ends }
-    ensures { OnOk result (ops.new ≡ slice_set (jumps_to (length ops.old) bodies.ends ops.old) start (Op.Switch value.now (map case_range cases.now) bodies.begins (middle - start - 1))) }
+    ensures { OnOk result (ops.new ≡ slice_set (jumps_to (length ops.old) bodies.ends ops.old) start (Op.Switch (resolved db.now protocol value.now) (record { ranges = map case_range cases.now; targets = bodies.begins; otherwise = middle - start - 1 }))) }
 {
-    let value = copy::expr(alloc, value)?;
+    let value = code_of(alloc, value, db, protocol)?;
     let ranges = ranges(alloc, cases)?;
     write_jumps(ops, bodies.ends.as_slice());
-    let op = Op::Switch {
-        value,
+    let choice = Choice {
         ranges,
         targets: bodies.begins,
         otherwise: middle - start - 1,
     };
-    ops.set(start, op);
+    ops.set(start, Op::Switch { value, choice });
     Ok(())
 }
 

@@ -1,28 +1,24 @@
 use Rattle.std.proofs.Common.{◌≡◌, Err, ap, rules, ◌∙◌}
-use Rattle.db_model.specs.Elements.{number}
-use Rattle.db_model.specs.Numbering.{names_of_protocol}
+use Rattle.pdl_code.specs.Does.{number}
 use Rattle.decode_vm.specs.Machine.{place_behind}
 use Rattle.decode_vm.proofs.Operations.{failed, ended_at, begins_switch, switch_some}
 use Rattle.decode_vm.proofs.choose.switch.Goals as goal
 
 pub returns-in_err-v-clause-moves : goal.returns-in_err-v-clause-moves
 returns-in_err-v-clause-moves g c =
-    let db = c.args.db.now in
-    let fields = names_of_protocol db c.args.protocol in
+    let db = c.args.program.now.db.now in
     let r : c.from_residual.result ≡ Err c.in_err-v.field-0.0 = search rules in
-    failed db fields c.args.code.now (number db fields c.args.value.now) _ c.args.m.now (g.A.Answers.content c.args.answers.now) (g.A.Answers.told c.args.answers.now) (g.A.Answers.content c.evaluate_number.new.answers) (g.A.Answers.told c.evaluate_number.new.answers)
-    (begins_switch db fields c.args.code.now c.args.pc c.args.value.now c.args.ranges.now c.args.targets.now c.args.otherwise 0 c.args.m.now c.requires.mode c.requires.stands) c.from_residual.result c.in_err-v.field-0.0 c.evaluate_number.new.m r c.in_err-v.ensures.value
+    failed db c.args.program.now.code.now (number db c.args.value.now) _ c.args.m.now (g.A.Answers.content c.args.answers.now) (g.A.Answers.told c.args.answers.now) (g.A.Answers.content c.evaluate_number.new.answers) (g.A.Answers.told c.evaluate_number.new.answers)
+    (begins_switch db c.args.program.now.code.now c.args.pc c.args.value.now c.args.choice.now 0 c.args.m.now c.requires.mode c.requires.stands) c.from_residual.result c.in_err-v.field-0.0 c.evaluate_number.new.m r c.in_err-v.ensures.value
 
 pub returns-in-Some-clause-moves : goal.returns-in-Some-clause-moves
 returns-in-Some-clause-moves g c =
-    let db = c.args.db.now in
-    let fields = names_of_protocol db c.args.protocol in
-    switch_some db fields c.args.code.now c.args.pc c.args.value.now c.args.ranges.now c.args.targets.now c.args.otherwise c.in-Some.v c.behind.result c.in_ok-v.field-0 c.args.m.now c.evaluate_number.new.m _ _ _ _ c.requires.mode c.requires.stands c.in-Some.is c.in_ok-v.ensures.value
-    (c.behind.ensures ∙ ap (place_behind c.args.code.now c.args.pc) c.target.ensures)
+    let db = c.args.program.now.db.now in
+    switch_some db c.args.program.now.code.now c.args.pc c.args.value.now c.args.choice.now c.in-Some.v c.behind.result c.in_ok-v.field-0 c.args.m.now c.evaluate_number.new.m _ _ _ _ c.requires.mode c.requires.stands c.in-Some.is c.in_ok-v.ensures.value
+    (c.behind.ensures ∙ ap (place_behind c.args.program.now.code.now c.args.pc) c.target.ensures)
 
 pub returns-in-None-clause-moves : goal.returns-in-None-clause-moves
 returns-in-None-clause-moves g c =
-    let db = c.args.db.now in
-    let fields = names_of_protocol db c.args.protocol in
-    ended_at db fields c.args.code.now (number db fields c.args.value.now) _ c.args.m.now _ _ _ _
-    (begins_switch db fields c.args.code.now c.args.pc c.args.value.now c.args.ranges.now c.args.targets.now c.args.otherwise 0 c.args.m.now c.requires.mode c.requires.stands) c.args.pc c.in_ok-v.field-0 c.evaluate_number.new.m c.requires.mode c.in-None.is c.in_ok-v.ensures.value
+    let db = c.args.program.now.db.now in
+    ended_at db c.args.program.now.code.now (number db c.args.value.now) _ c.args.m.now _ _ _ _
+    (begins_switch db c.args.program.now.code.now c.args.pc c.args.value.now c.args.choice.now 0 c.args.m.now c.requires.mode c.requires.stands) c.args.pc c.in_ok-v.field-0 c.evaluate_number.new.m c.requires.mode c.in-None.is c.in_ok-v.ensures.value

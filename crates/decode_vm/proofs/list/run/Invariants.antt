@@ -1,5 +1,4 @@
 use Rattle.std.proofs.Common.{◌≡◌}
-use Rattle.db_model.specs.Numbering.{names_of_protocol}
 use Rattle.decode_vm.specs.Cost.{cost}
 use Rattle.decode_vm.proofs.Stepping.{SoFar}
 use Rattle.decode_vm.proofs.list.run.Given as goal
@@ -7,7 +6,7 @@ use Rattle.decode_vm.proofs.list.run.Given as goal
 abbrev pub invariant-loop-m : goal.invariant-loop-m
 invariant-loop-m g l = record {
   database : g.A.Answers.database l.answers ≡ l.fn.db;
-  so_far : SoFar l.fn.db (names_of_protocol l.fn.db l.fn.protocol) l.fn.code l.fn.frame (g.A.Answers.content l.fn.answers) (g.A.Answers.told l.fn.answers) l.m (g.A.Answers.content l.answers) (g.A.Answers.told l.answers);
+  so_far : SoFar l.fn.db l.fn.code l.fn.frame (g.A.Answers.content l.fn.answers) (g.A.Answers.told l.fn.answers) l.m (g.A.Answers.content l.answers) (g.A.Answers.told l.answers);
 }
 
 abbrev pub decreases-loop-m : goal.decreases-loop-m

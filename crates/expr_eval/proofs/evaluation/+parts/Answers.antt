@@ -6,127 +6,107 @@ use Rattle.db_model.specs.declared.database.Database.{Database}
 use Rattle.db_model.specs.declared.database.KeyDecl.{KeyDecl}
 use Rattle.db_model.specs.declared.database.TableDecl.{TableDecl}
 use Rattle.db_model.specs.Over.{point}
-use Rattle.db_model.specs.Special.{special}
 use Rattle.expr_eval.specs.declared.end.EvalEnd.TheVariants.{NoMemory as Refused}
-use Rattle.db_model.specs.Expression.{Eval, key_sizes, num, buf, truth, is_so, last_of, val, give}
-use Rattle.db_model.specs.Names.{protocol_at, table_at, column_at}
+use Rattle.db_model.specs.Expression.{Eval, key_sizes, num, buf, truth, is_so, special_value, give}
+use Rattle.expr_code.specs.Meaning.{code_val, code_value}
 use Rattle.db_model.specs.Numbers.{occurs}
-use Rattle.db_model.specs.Numbering.{names_of_protocol}
 use Rattle.expr_eval.specs.declared.operand.Operand.TheVariants.{Own}
 use Rattle.expr_eval.specs.Operand.{shown}
 use Rattle.expr_eval.specs.Evaluates.{Gave}
-use Rattle.expr_eval.specs.Reads.{field_value, variable_value, column_value}
-use Rattle.expr_eval.proofs.Forms.{not_is, and_is, or_is, binary_is, slice_is, to_number_is, length_is, to_bytes_is, has_text_is, look_up_is, number_is, text_is, protocol_is, field_is, variable_is, column_is, is_present_is}
+use Rattle.expr_eval.specs.Reads.{field_value, column_value}
+use Rattle.expr_eval.proofs.Forms.{not_is, and_is, or_is, binary_is, slice_is, to_number_is, length_is, to_bytes_is, has_text_is, look_up_is, number_is, text_is, protocol_is, field_is, special_is, variable_is, column_is, is_present_is}
 use Rattle.expr_eval.proofs.Steps.{same, same_as, recast, gives, refused, then_ok, then_err, then_so, then_not, finish_1, finish_2, finish_3, own_is, Keys_so_far, no_keys_yet, key_unevaluated, key_unmade, key_made, keys_end, keys_fitted, key_missing, keys_then, look_is_fit, drop_some, drop_past, drop_beyond, drop_leaves, drop_all, drop_at, keys_at}
 use Rattle.expr_eval.proofs.evaluation.+parts.Goals as goal
 
 pub evaluate-returns-in-Not-clause-value : goal.evaluate-returns-in-Not-clause-value
 evaluate-returns-in-Not-clause-value g t c =
     let db = c.args.db.now in
-    let names = names_of_protocol db c.args.protocol in
-    same_as db (not_is db names c.args.e.now c.in-Not.x c.get.result.now c.in-Not.is c.get.ensures) c.negation.ensures.value
+    same_as db (not_is db c.args.code.now c.in-Not.x c.get.result.now c.in-Not.is c.get.ensures) c.negation.ensures.value
 
 pub evaluate-returns-in-And-clause-value : goal.evaluate-returns-in-And-clause-value
 evaluate-returns-in-And-clause-value g t c =
     let db = c.args.db.now in
-    let names = names_of_protocol db c.args.protocol in
-    same_as db (and_is db names c.args.e.now c.in-And.x c.in-And.y c.get-in-And.result.now c.get-in-And-2.result.now c.in-And.is c.get-in-And.ensures c.get-in-And-2.ensures) c.conjunction.ensures.value
+    same_as db (and_is db c.args.code.now c.in-And.x c.in-And.y c.get-in-And.result.now c.get-in-And-2.result.now c.in-And.is c.get-in-And.ensures c.get-in-And-2.ensures) c.conjunction.ensures.value
 
 pub evaluate-returns-in-Or-clause-value : goal.evaluate-returns-in-Or-clause-value
 evaluate-returns-in-Or-clause-value g t c =
     let db = c.args.db.now in
-    let names = names_of_protocol db c.args.protocol in
-    same_as db (or_is db names c.args.e.now c.in-Or.x c.in-Or.y c.get-in-Or.result.now c.get-in-Or-2.result.now c.in-Or.is c.get-in-Or.ensures c.get-in-Or-2.ensures) c.disjunction.ensures.value
+    same_as db (or_is db c.args.code.now c.in-Or.x c.in-Or.y c.get-in-Or.result.now c.get-in-Or-2.result.now c.in-Or.is c.get-in-Or.ensures c.get-in-Or-2.ensures) c.disjunction.ensures.value
 
 pub evaluate-returns-in-Binary-clause-value : goal.evaluate-returns-in-Binary-clause-value
 evaluate-returns-in-Binary-clause-value g t c =
     let db = c.args.db.now in
-    let names = names_of_protocol db c.args.protocol in
-    same_as db (binary_is db names c.args.e.now c.in-Binary.x c.in-Binary.y c.get-in-Binary.result.now c.get-in-Binary-2.result.now c.in-Binary.op c.in-Binary.is c.get-in-Binary.ensures c.get-in-Binary-2.ensures) c.operation.ensures.value
+    same_as db (binary_is db c.args.code.now c.in-Binary.x c.in-Binary.y c.get-in-Binary.result.now c.get-in-Binary-2.result.now c.in-Binary.op c.in-Binary.is c.get-in-Binary.ensures c.get-in-Binary-2.ensures) c.operation.ensures.value
 
 pub evaluate-returns-in-Slice-clause-value : goal.evaluate-returns-in-Slice-clause-value
 evaluate-returns-in-Slice-clause-value g t c =
     let db = c.args.db.now in
-    let names = names_of_protocol db c.args.protocol in
-    same_as db (slice_is db names c.args.e.now c.in-Slice.base c.in-Slice.from c.in-Slice.count c.get-in-Slice.result.now c.get-in-Slice-2.result.now c.get-in-Slice-3.result.now c.in-Slice.is c.get-in-Slice.ensures c.get-in-Slice-2.ensures c.get-in-Slice-3.ensures) c.slice.ensures.value
+    same_as db (slice_is db c.args.code.now c.in-Slice.base c.in-Slice.from c.in-Slice.count c.get-in-Slice.result.now c.get-in-Slice-2.result.now c.get-in-Slice-3.result.now c.in-Slice.is c.get-in-Slice.ensures c.get-in-Slice-2.ensures c.get-in-Slice-3.ensures) c.slice.ensures.value
 
 pub evaluate-returns-in-ToNumber-clause-value : goal.evaluate-returns-in-ToNumber-clause-value
 evaluate-returns-in-ToNumber-clause-value g t c =
     let db = c.args.db.now in
-    let names = names_of_protocol db c.args.protocol in
-    same_as db (to_number_is db names c.args.e.now c.in-ToNumber.x c.get-in-ToNumber.result.now c.in-ToNumber.is c.get-in-ToNumber.ensures) c.to_number.ensures.value
+    same_as db (to_number_is db c.args.code.now c.in-ToNumber.x c.get-in-ToNumber.result.now c.in-ToNumber.is c.get-in-ToNumber.ensures) c.to_number.ensures.value
 
 pub evaluate-returns-in-LengthOf-clause-value : goal.evaluate-returns-in-LengthOf-clause-value
 evaluate-returns-in-LengthOf-clause-value g t c =
     let db = c.args.db.now in
-    let names = names_of_protocol db c.args.protocol in
-    same_as db (length_is db names c.args.e.now c.in-LengthOf.x c.get-in-LengthOf.result.now c.in-LengthOf.is c.get-in-LengthOf.ensures) c.length_of.ensures.value
+    same_as db (length_is db c.args.code.now c.in-LengthOf.x c.get-in-LengthOf.result.now c.in-LengthOf.is c.get-in-LengthOf.ensures) c.length_of.ensures.value
 
 pub evaluate-returns-in-ToBytes-clause-value : goal.evaluate-returns-in-ToBytes-clause-value
 evaluate-returns-in-ToBytes-clause-value g t c =
     let db = c.args.db.now in
-    let names = names_of_protocol db c.args.protocol in
-    same_as db (to_bytes_is db names c.args.e.now c.in-ToBytes.value c.get-in-ToBytes.result.now c.in-ToBytes.size c.in-ToBytes.is c.get-in-ToBytes.ensures) c.to_bytes.ensures.value
+    same_as db (to_bytes_is db c.args.code.now c.in-ToBytes.value c.get-in-ToBytes.result.now c.in-ToBytes.size c.in-ToBytes.is c.get-in-ToBytes.ensures) c.to_bytes.ensures.value
 
 pub evaluate-returns-in-HasText-clause-value : goal.evaluate-returns-in-HasText-clause-value
 evaluate-returns-in-HasText-clause-value g t c =
     let db = c.args.db.now in
-    let names = names_of_protocol db c.args.protocol in
-    same_as db (has_text_is db names c.args.e.now c.in-HasText.within c.get-in-HasText.result.now c.in-HasText.text c.in-HasText.is c.get-in-HasText.ensures) c.has_text.ensures.value
+    same_as db (has_text_is db c.args.code.now c.in-HasText.within c.get-in-HasText.result.now c.in-HasText.text c.in-HasText.is c.get-in-HasText.ensures) c.has_text.ensures.value
 
 pub evaluate-returns-in-Number-clause-value : goal.evaluate-returns-in-Number-clause-value
 evaluate-returns-in-Number-clause-value g t c =
     let db = c.args.db.now in
-    let names = names_of_protocol db c.args.protocol in
-    same db (number_is db names c.args.e.now c.in-Number.n c.args.env.now c.in-Number.is) (gives db (Ok (Num c.in-Number.n)) (own_is _ _ _ c.of_number.ensures))
+    same db (number_is db c.args.code.now c.in-Number.n c.args.env.now c.in-Number.is) (gives db (Ok (Num c.in-Number.n)) (own_is _ _ _ c.of_number.ensures))
 
 pub evaluate-returns-in-Text-clause-value : goal.evaluate-returns-in-Text-clause-value
 evaluate-returns-in-Text-clause-value g t c =
     let db = c.args.db.now in
-    let names = names_of_protocol db c.args.protocol in
-    same db (text_is db names c.args.e.now c.in-Text.text c.args.env.now c.in-Text.is) (gives db (Ok (Buf c.in-Text.text)) (c.text.ensures _))
+    same db (text_is db c.args.code.now c.in-Text.text c.args.env.now c.in-Text.is) (gives db (Ok (Buf c.in-Text.text)) (c.text.ensures _))
 
 pub evaluate-returns-in-Protocol-clause-value : goal.evaluate-returns-in-Protocol-clause-value
 evaluate-returns-in-Protocol-clause-value g t c =
     let db = c.args.db.now in
-    let names = names_of_protocol db c.args.protocol in
-    let p = c.protocol.ensures in
-    same db (protocol_is db names c.args.e.now c.in-Protocol.name c.args.env.now c.in-Protocol.is) (gives db (Ok (Proto (protocol_at db c.in-Protocol.name))) (ap (λ (v : Value). Ok v) (sym p)))
+    same db (protocol_is db c.args.code.now c.in-Protocol.number c.args.env.now c.in-Protocol.is) (gives db (Ok (Proto c.in-Protocol.number)) refl)
 
 pub evaluate-returns-in-Field-clause-value : goal.evaluate-returns-in-Field-clause-value
 evaluate-returns-in-Field-clause-value g t c =
     let db = c.args.db.now in
-    let names = names_of_protocol db c.args.protocol in
-    let h : Gave (shown c.args.env.now.packet.bytes) (field_value (last_of (names_of_protocol c.args.db.now c.args.protocol) c.as_slice.result.now c.args.env.now.present None)) c.field.result = c.field.ensures in
-    same db (field_is db names c.args.e.now c.in-Field.name c.args.env.now c.in-Field.is) (gives db _ (rw (c.as_slice.ensures.bytes) at h))
+    same db (field_is db c.args.code.now c.in-Field.numbers c.args.env.now c.in-Field.is) (gives db _ c.field.ensures)
 
 pub evaluate-returns-in-Variable-clause-value : goal.evaluate-returns-in-Variable-clause-value
 evaluate-returns-in-Variable-clause-value g t c =
     let db = c.args.db.now in
-    let names = names_of_protocol db c.args.protocol in
-    let h : Gave (shown c.args.env.now.packet.bytes) (Ok (variable_value c.args.db.now (special c.as_slice-in-Variable.result.now) c.as_slice-in-Variable.result.now c.args.env.now)) c.variable.result = c.variable.ensures in
-    same db (variable_is db names c.args.e.now c.in-Variable.name c.args.env.now c.in-Variable.is) (gives db _ (rw (c.as_slice-in-Variable.ensures.bytes) at h))
+    same db (variable_is db c.args.code.now c.in-Variable.place c.args.env.now c.in-Variable.is) (gives db _ (c.variable.ensures _))
+
+pub evaluate-returns-in-Special-clause-value : goal.evaluate-returns-in-Special-clause-value
+evaluate-returns-in-Special-clause-value g t c =
+    let db = c.args.db.now in
+    same db (special_is db c.args.code.now c.in-Special.special c.args.env.now c.in-Special.is) (gives db (Ok (special_value c.in-Special.special c.args.env.now)) (ap (λ (v : Value). Ok v) (sym c.special.ensures)))
 
 pub evaluate-returns-in-Column-clause-value : goal.evaluate-returns-in-Column-clause-value
 evaluate-returns-in-Column-clause-value g t c =
     let db = c.args.db.now in
-    let names = names_of_protocol db c.args.protocol in
-    let h : Gave (shown c.args.env.now.packet.bytes) (column_value (slice_get c.args.env.now.hits (table_at c.args.db.now c.as_slice-in-Column.result.now)) (column_at (slice_get c.args.db.now.tables (table_at c.args.db.now c.as_slice-in-Column.result.now)) c.as_slice-in-Column-2.result.now)) c.column.result = c.column.ensures in
-    same db (column_is db names c.args.e.now c.in-Column.table c.in-Column.column c.args.env.now c.in-Column.is) (gives db _ (rw (c.as_slice-in-Column.ensures.bytes, c.as_slice-in-Column-2.ensures.bytes) at h))
+    same db (column_is db c.args.code.now c.in-Column.table c.in-Column.column c.args.env.now c.in-Column.is) (gives db _ c.column.ensures)
 
 pub evaluate-returns-in-IsPresent-clause-value : goal.evaluate-returns-in-IsPresent-clause-value
 evaluate-returns-in-IsPresent-clause-value g t c =
     let db = c.args.db.now in
-    let names = names_of_protocol db c.args.protocol in
-    let h : c.is_present.result ≡ def.is_present (names_of_protocol c.args.db.now c.args.protocol) c.as_slice-in-IsPresent.result.now c.as_slice-present.result.now = c.is_present.ensures in
-    let k = rw (c.as_slice-in-IsPresent.ensures.bytes, c.as_slice-present.ensures) at h in
-    same db (is_present_is db names c.args.e.now c.in-IsPresent.name c.args.env.now c.in-IsPresent.is) (gives db _ (own_is _ _ _ (c.of_truth.ensures ∙ ap (λ (b : Bool). Own (truth b)) k)))
+    same db (is_present_is db c.args.code.now c.in-IsPresent.numbers c.args.env.now c.in-IsPresent.is) (gives db _ (own_is _ _ _ c.presence.ensures))
 
 pub evaluate-returns-in-LookUp-clause-value : goal.evaluate-returns-in-LookUp-clause-value
 evaluate-returns-in-LookUp-clause-value g t c =
     let db = c.args.db.now in
-    let names = names_of_protocol db c.args.protocol in
-    same_as db (look_up_is db names c.args.e.now c.in-LookUp.table c.in-LookUp.renew c.in-LookUp.keys c.as_slice-in-LookUp.result.now c.in-LookUp.is c.as_slice-in-LookUp.ensures) c.look_up.ensures.value
+    same_as db (look_up_is db c.args.code.now c.in-LookUp.table c.in-LookUp.renew c.in-LookUp.keys c.as_slice.result.now c.in-LookUp.is c.as_slice.ensures) c.look_up.ensures.value
 
 pub negation-returns-in_err-x-clause-value : goal.negation-returns-in_err-x-clause-value
 negation-returns-in_err-x-clause-value g t c =
@@ -276,48 +256,42 @@ has_text-returns-clause-value g t c =
 pub look_up-returns-in_err-keys-in-Some-clause-value : goal.look_up-returns-in_err-keys-in-Some-clause-value
 look_up-returns-in_err-keys-in-Some-clause-value g t c =
     let db = c.args.db.now in
-    let table = table_at db c.args.table.now in
+    let table = c.args.asked.table in
     let d = c.in-Some.declared.now in
-    let parts = map (val db (names_of_protocol db c.args.protocol)) c.args.parts.now in
-    let place : c.table_at-place.result ≡ table = c.table_at-place.ensures.place ∙ ap (table_at db) c.as_slice.ensures.bytes in
-    let there : slice_get db.tables table ≡ Some d = ap (λ (x : Database). slice_get x.tables table) (sym c.database.ensures.database) ∙ ap (slice_get c.database.result.now.tables) (sym place) ∙ sym c.in-Some.ensures.value in
-    let is = ap (λ (o : Option TableDecl). def.look_up o table c.args.renew parts) there ∙ ap (λ (l : List KeyDecl). keys_then l parts table c.args.renew) (sym c.as_slice-sizes.ensures) in
+    let there : slice_get db.tables table ≡ Some d = ap (λ (x : Database). slice_get x.tables table) (sym c.database.ensures.database) ∙ sym c.in-Some.ensures.value in
+    let parts = map (code_val db) c.args.parts.now in
+    let is = ap (λ (o : Option TableDecl). def.look_up o table c.args.asked.renew parts) there ∙ ap (λ (l : List KeyDecl). keys_then l parts table c.args.asked.renew) (sym c.as_slice-sizes.ensures) in
     let r : c.from_residual.result ≡ Err c.in_err-keys-in-Some.field-0.0 = search rules in
     recast db r (same_as db is (then_err db _ c.in_err-keys-in-Some.field-0.0 c.in_err-keys-in-Some.ensures.value))
 
 pub look_up-look-requires-clause-fits : goal.look_up-look-requires-clause-fits
 look_up-look-requires-clause-fits g t c =
     let db = c.args.db.now in
-    let table = table_at db c.args.table.now in
+    let table = c.args.asked.table in
     let d = c.in-Some.declared.now in
-    let parts = map (val db (names_of_protocol db c.args.protocol)) c.args.parts.now in
-    let place : c.table_at-place.result ≡ table = c.table_at-place.ensures.place ∙ ap (table_at db) c.as_slice.ensures.bytes in
-    let there : slice_get db.tables table ≡ Some d = ap (λ (x : Database). slice_get x.tables table) (sym c.database.ensures.database) ∙ ap (slice_get c.database.result.now.tables) (sym place) ∙ sym c.in-Some.ensures.value in
-    look_is_fit db c.table_at-place.result table d (map (λ (k : KeyDecl). k.size) c.as_slice-sizes.result.now) c.in_ok-keys-in-Some.keys c.args.renew there place (ap (map (λ (k : KeyDecl). k.size)) c.as_slice-sizes.ensures) c.in_ok-keys-in-Some.ensures.fits
+    let there : slice_get db.tables table ≡ Some d = ap (λ (x : Database). slice_get x.tables table) (sym c.database.ensures.database) ∙ sym c.in-Some.ensures.value in
+    look_is_fit db table table d (map (λ (k : KeyDecl). k.size) c.as_slice-sizes.result.now) c.in_ok-keys-in-Some.keys c.args.asked.renew there refl (ap (map (λ (k : KeyDecl). k.size)) c.as_slice-sizes.ensures) c.in_ok-keys-in-Some.ensures.fits
 
 pub look_up-returns-in_ok-keys-in-Some-clause-value : goal.look_up-returns-in_ok-keys-in-Some-clause-value
 look_up-returns-in_ok-keys-in-Some-clause-value g t c =
     let db = c.args.db.now in
-    let table = table_at db c.args.table.now in
+    let table = c.args.asked.table in
     let d = c.in-Some.declared.now in
-    let parts = map (val db (names_of_protocol db c.args.protocol)) c.args.parts.now in
-    let place : c.table_at-place.result ≡ table = c.table_at-place.ensures.place ∙ ap (table_at db) c.as_slice.ensures.bytes in
-    let there : slice_get db.tables table ≡ Some d = ap (λ (x : Database). slice_get x.tables table) (sym c.database.ensures.database) ∙ ap (slice_get c.database.result.now.tables) (sym place) ∙ sym c.in-Some.ensures.value in
-    let is = ap (λ (o : Option TableDecl). def.look_up o table c.args.renew parts) there ∙ ap (λ (l : List KeyDecl). keys_then l parts table c.args.renew) (sym c.as_slice-sizes.ensures) in
-    let numbered = ap (λ (n : ℕ). keys_then c.as_slice-sizes.result.now parts n c.args.renew) (sym place) in
-    same_as db (is ∙ numbered) (then_ok db _ c.in_ok-keys-in-Some.keys c.in_ok-keys-in-Some.ensures.value c.look.ensures.value)
+    let there : slice_get db.tables table ≡ Some d = ap (λ (x : Database). slice_get x.tables table) (sym c.database.ensures.database) ∙ sym c.in-Some.ensures.value in
+    let parts = map (code_val db) c.args.parts.now in
+    let is = ap (λ (o : Option TableDecl). def.look_up o table c.args.asked.renew parts) there ∙ ap (λ (l : List KeyDecl). keys_then l parts table c.args.asked.renew) (sym c.as_slice-sizes.ensures) in
+    same_as db is (then_ok db _ c.in_ok-keys-in-Some.keys c.in_ok-keys-in-Some.ensures.value c.look.ensures.value)
 
 pub keys-returns-then-parts-sizes-clause-value : goal.keys-returns-then-parts-sizes-clause-value
 keys-returns-then-parts-sizes-clause-value g t c =
     let db = c.args.db.now in
-    let names = names_of_protocol db c.args.protocol in
     let sizes = map (λ (k : KeyDecl). k.size) c.args.sizes.now in
-    let parts = map (val db names) c.args.parts.now in
+    let parts = map (code_val db) c.args.parts.now in
     let m = point c.args.env.now (g.A.Answers.content c.args.answers.now) (g.A.Answers.told c.args.answers.now) in
     let n = point c.loop-i.env (g.A.Answers.content c.loop-i.answers) (g.A.Answers.told c.loop-i.answers) in
     let i = c.loop-i.i in
     let end : i ≡ length c.args.parts.now = omega arith in
-    let all : drop i parts ≡ [] = ap (λ (j : ℕ). drop j parts) end ∙ drop_all (val db names) c.args.parts.now in
+    let all : drop i parts ≡ [] = ap (λ (j : ℕ). drop j parts) end ∙ drop_all (code_val db) c.args.parts.now in
     let s = subst (λ (r : List (Eval Value)). Keys_so_far db sizes parts m c.loop-i.keys (drop i sizes) r n) all c.loop-i.invariant.so_far in
     key_missing db sizes parts m c.loop-i.keys (drop i sizes) n (drop_leaves (λ (k : KeyDecl). k.size) c.args.sizes.now i (omega arith)) s
 
@@ -332,68 +306,64 @@ keys-loop-i-init g t c =
 pub keys-returns-in_err-x-clause-value : goal.keys-returns-in_err-x-clause-value
 keys-returns-in_err-x-clause-value g t c =
     let db = c.args.db.now in
-    let names = names_of_protocol db c.args.protocol in
     let sizes = map (λ (k : KeyDecl). k.size) c.args.sizes.now in
-    let parts = map (val db names) c.args.parts.now in
+    let parts = map (code_val db) c.args.parts.now in
     let m = point c.args.env.now (g.A.Answers.content c.args.answers.now) (g.A.Answers.told c.args.answers.now) in
     let n = point c.loop-i.env (g.A.Answers.content c.loop-i.answers) (g.A.Answers.told c.loop-i.answers) in
     let i = c.loop-i.i in
     let k = point c.evaluate.new.env (g.A.Answers.content c.evaluate.new.answers) (g.A.Answers.told c.evaluate.new.answers) in
     let size = c.in-Some.declaration.now.size in
-    let p = val db names c.index-parts-i.result in
+    let p = code_val db c.index-parts-i.result in
     let found : slice_get c.args.sizes.now i ≡ Some c.in-Some.declaration.now = sym c.in-Some.ensures in
-    let s = keys_at db sizes parts m c.loop-i.keys i size p n (drop_some (λ (k : KeyDecl). k.size) c.args.sizes.now i c.in-Some.declaration.now found) (drop_at (val db names) c.args.parts.now i c.index-parts-i.result c.loop-i-test.true c.index-parts-i.is) c.loop-i.invariant.so_far in
+    let s = keys_at db sizes parts m c.loop-i.keys i size p n (drop_some (λ (k : KeyDecl). k.size) c.args.sizes.now i c.in-Some.declaration.now found) (drop_at (code_val db) c.args.parts.now i c.index-parts-i.result c.loop-i-test.true c.index-parts-i.is) c.loop-i.invariant.so_far in
     let r : c.from_residual.result ≡ Err c.in_err-x.field-0.0 = search rules in
     recast db r (key_unevaluated db sizes parts m c.loop-i.keys size (drop (i + 1) sizes) p (drop (i + 1) parts) n c.in_err-x.field-0.0 k s c.in_err-x.ensures.value)
 
 pub keys-returns-in_err-key-clause-value : goal.keys-returns-in_err-key-clause-value
 keys-returns-in_err-key-clause-value g t c =
     let db = c.args.db.now in
-    let names = names_of_protocol db c.args.protocol in
     let sizes = map (λ (k : KeyDecl). k.size) c.args.sizes.now in
-    let parts = map (val db names) c.args.parts.now in
+    let parts = map (code_val db) c.args.parts.now in
     let m = point c.args.env.now (g.A.Answers.content c.args.answers.now) (g.A.Answers.told c.args.answers.now) in
     let n = point c.loop-i.env (g.A.Answers.content c.loop-i.answers) (g.A.Answers.told c.loop-i.answers) in
     let i = c.loop-i.i in
     let k = point c.evaluate.new.env (g.A.Answers.content c.evaluate.new.answers) (g.A.Answers.told c.evaluate.new.answers) in
     let size = c.in-Some.declaration.now.size in
-    let p = val db names c.index-parts-i.result in
+    let p = code_val db c.index-parts-i.result in
     let found : slice_get c.args.sizes.now i ≡ Some c.in-Some.declaration.now = sym c.in-Some.ensures in
-    let s = keys_at db sizes parts m c.loop-i.keys i size p n (drop_some (λ (k : KeyDecl). k.size) c.args.sizes.now i c.in-Some.declaration.now found) (drop_at (val db names) c.args.parts.now i c.index-parts-i.result c.loop-i-test.true c.index-parts-i.is) c.loop-i.invariant.so_far in
+    let s = keys_at db sizes parts m c.loop-i.keys i size p n (drop_some (λ (k : KeyDecl). k.size) c.args.sizes.now i c.in-Some.declaration.now found) (drop_at (code_val db) c.args.parts.now i c.index-parts-i.result c.loop-i-test.true c.index-parts-i.is) c.loop-i.invariant.so_far in
     let r : c.from_residual-in_err-key.result ≡ Err c.in_err-key.field-0.0 = search rules in
     recast db r (key_unmade db sizes parts m c.loop-i.keys size (drop (i + 1) sizes) p (drop (i + 1) parts) n c.in_ok-x.x c.in_err-key.field-0.0 k s c.in_ok-x.ensures.value c.in_err-key.ensures)
 
 pub keys-returns-in_err-push-clause-value : goal.keys-returns-in_err-push-clause-value
 keys-returns-in_err-push-clause-value g t c =
     let db = c.args.db.now in
-    let names = names_of_protocol db c.args.protocol in
     let sizes = map (λ (k : KeyDecl). k.size) c.args.sizes.now in
-    let parts = map (val db names) c.args.parts.now in
+    let parts = map (code_val db) c.args.parts.now in
     let m = point c.args.env.now (g.A.Answers.content c.args.answers.now) (g.A.Answers.told c.args.answers.now) in
     let n = point c.loop-i.env (g.A.Answers.content c.loop-i.answers) (g.A.Answers.told c.loop-i.answers) in
     let i = c.loop-i.i in
     let k = point c.evaluate.new.env (g.A.Answers.content c.evaluate.new.answers) (g.A.Answers.told c.evaluate.new.answers) in
     let size = c.in-Some.declaration.now.size in
-    let p = val db names c.index-parts-i.result in
+    let p = code_val db c.index-parts-i.result in
     let found : slice_get c.args.sizes.now i ≡ Some c.in-Some.declaration.now = sym c.in-Some.ensures in
-    let s = keys_at db sizes parts m c.loop-i.keys i size p n (drop_some (λ (k : KeyDecl). k.size) c.args.sizes.now i c.in-Some.declaration.now found) (drop_at (val db names) c.args.parts.now i c.index-parts-i.result c.loop-i-test.true c.index-parts-i.is) c.loop-i.invariant.so_far in
+    let s = keys_at db sizes parts m c.loop-i.keys i size p n (drop_some (λ (k : KeyDecl). k.size) c.args.sizes.now i c.in-Some.declaration.now found) (drop_at (code_val db) c.args.parts.now i c.index-parts-i.result c.loop-i-test.true c.index-parts-i.is) c.loop-i.invariant.so_far in
     let r : c.from_residual-in_err-push.result ≡ Err Refused = search rules in
     recast db r ((key_made db sizes parts m c.loop-i.keys size (drop (i + 1) sizes) p (drop (i + 1) parts) n c.in_ok-x.x c.in_ok-key.field-0 k s c.in_ok-x.ensures.value c.in_ok-key.ensures).goes (Err Refused) k (refused db _))
 
 pub keys-loop-i-preserved : goal.keys-loop-i-preserved
 keys-loop-i-preserved g t c =
     let db = c.args.db.now in
-    let names = names_of_protocol db c.args.protocol in
     let sizes = map (λ (k : KeyDecl). k.size) c.args.sizes.now in
-    let parts = map (val db names) c.args.parts.now in
+    let parts = map (code_val db) c.args.parts.now in
     let m = point c.args.env.now (g.A.Answers.content c.args.answers.now) (g.A.Answers.told c.args.answers.now) in
     let n = point c.loop-i.env (g.A.Answers.content c.loop-i.answers) (g.A.Answers.told c.loop-i.answers) in
     let i = c.loop-i.i in
     let k = point c.evaluate.new.env (g.A.Answers.content c.evaluate.new.answers) (g.A.Answers.told c.evaluate.new.answers) in
     let size = c.in-Some.declaration.now.size in
-    let p = val db names c.index-parts-i.result in
+    let p = code_val db c.index-parts-i.result in
     let found : slice_get c.args.sizes.now i ≡ Some c.in-Some.declaration.now = sym c.in-Some.ensures in
-    let s = keys_at db sizes parts m c.loop-i.keys i size p n (drop_some (λ (k : KeyDecl). k.size) c.args.sizes.now i c.in-Some.declaration.now found) (drop_at (val db names) c.args.parts.now i c.index-parts-i.result c.loop-i-test.true c.index-parts-i.is) c.loop-i.invariant.so_far in
+    let s = keys_at db sizes parts m c.loop-i.keys i size p n (drop_some (λ (k : KeyDecl). k.size) c.args.sizes.now i c.in-Some.declaration.now found) (drop_at (code_val db) c.args.parts.now i c.index-parts-i.result c.loop-i-test.true c.index-parts-i.is) c.loop-i.invariant.so_far in
     record {
       database = search rules;
       packet = search rules;
@@ -403,9 +373,8 @@ keys-loop-i-preserved g t c =
 pub keys-returns-in-None : goal.keys-returns-in-None
 keys-returns-in-None g t c =
     let db = c.args.db.now in
-    let names = names_of_protocol db c.args.protocol in
     let sizes = map (λ (k : KeyDecl). k.size) c.args.sizes.now in
-    let parts = map (val db names) c.args.parts.now in
+    let parts = map (code_val db) c.args.parts.now in
     let m = point c.args.env.now (g.A.Answers.content c.args.answers.now) (g.A.Answers.told c.args.answers.now) in
     let n = point c.loop-i.env (g.A.Answers.content c.loop-i.answers) (g.A.Answers.told c.loop-i.answers) in
     let i = c.loop-i.i in
@@ -421,9 +390,8 @@ keys-returns-in-None g t c =
 pub keys-returns : goal.keys-returns
 keys-returns g t c =
     let db = c.args.db.now in
-    let names = names_of_protocol db c.args.protocol in
     let sizes = map (λ (k : KeyDecl). k.size) c.args.sizes.now in
-    let parts = map (val db names) c.args.parts.now in
+    let parts = map (code_val db) c.args.parts.now in
     let m = point c.args.env.now (g.A.Answers.content c.args.answers.now) (g.A.Answers.told c.args.answers.now) in
     let n = point c.loop-i.env (g.A.Answers.content c.loop-i.answers) (g.A.Answers.told c.loop-i.answers) in
     let i = c.loop-i.i in

@@ -1,9 +1,8 @@
 use Rattle.std.proofs.Common.{◌≡◌, map, drop, max, ◌+◌, ◌*◌}
-use Rattle.db_model.proofs.expression.Expr.TheLaws.{the_size}
+use Rattle.expr_code.proofs.code.ExprCode.TheLaws.{the_size}
 use Rattle.db_model.specs.declared.database.KeyDecl.{KeyDecl}
-use Rattle.db_model.specs.Expression.{val}
-use Rattle.db_model.specs.Numbering.{names_of_protocol}
 use Rattle.db_model.specs.Over.{point}
+use Rattle.expr_code.specs.Meaning.{code_val}
 use Rattle.expr_eval.proofs.Steps.{Keys_so_far}
 use Rattle.expr_eval.proofs.evaluation.+parts.Given as goal
 
@@ -11,8 +10,8 @@ abbrev pub invariant-keys-loop-i : goal.invariant-keys-loop-i
 invariant-keys-loop-i g l = record {
   database : g.A.Answers.database l.answers ≡ g.A.Answers.database l.fn.answers;
   packet : l.env.packet ≡ l.fn.env.packet;
-  so_far : Keys_so_far l.fn.db (map (λ (k : KeyDecl). k.size) l.fn.sizes) (map (val l.fn.db (names_of_protocol l.fn.db l.fn.protocol)) l.fn.parts) (point l.fn.env (g.A.Answers.content l.fn.answers) (g.A.Answers.told l.fn.answers))
-      l.keys (drop l.i (map (λ (k : KeyDecl). k.size) l.fn.sizes)) (drop l.i (map (val l.fn.db (names_of_protocol l.fn.db l.fn.protocol)) l.fn.parts)) (point l.env (g.A.Answers.content l.answers) (g.A.Answers.told l.answers));
+  so_far : Keys_so_far l.fn.db (map (λ (k : KeyDecl). k.size) l.fn.sizes) (map (code_val l.fn.db) l.fn.parts) (point l.fn.env (g.A.Answers.content l.fn.answers) (g.A.Answers.told l.fn.answers))
+      l.keys (drop l.i (map (λ (k : KeyDecl). k.size) l.fn.sizes)) (drop l.i (map (code_val l.fn.db) l.fn.parts)) (point l.env (g.A.Answers.content l.answers) (g.A.Answers.told l.answers));
 }
 
 -- The depth of what is evaluated. A form stands above the evaluation of its parts, and a look-up above its keys.
@@ -48,7 +47,7 @@ abbrev pub decreases-disjunction : goal.decreases-disjunction
 decreases-disjunction g l = 3 * max (the_size l.x.now) (the_size l.y.now) + 1
 
 abbrev pub decreases-operation : goal.decreases-operation
-decreases-operation g l = 3 * max (the_size l.x.now) (the_size l.y.now) + 1
+decreases-operation g l = 3 * max (the_size l.parts.0.now) (the_size l.parts.1.now) + 1
 
 abbrev pub decreases-slice : goal.decreases-slice
-decreases-slice g l = 3 * max (the_size l.base.now) (max (the_size l.from.now) (the_size l.count.now)) + 1
+decreases-slice g l = 3 * max (the_size l.base.now) (max (the_size l.range.0.now) (the_size l.range.1.now)) + 1

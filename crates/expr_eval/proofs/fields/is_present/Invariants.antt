@@ -1,7 +1,6 @@
 use Rattle.std.proofs.Common.{◌≡◌, drop}
-use Rattle.db_model.specs.Expression.{is_present}
-use Rattle.db_model.specs.Numbering.{names_of_protocol}
+use Rattle.expr_code.specs.Meaning.{some_in}
 use Rattle.expr_eval.proofs.fields.is_present.Given as goal
 
 abbrev pub invariant-loop-field : goal.invariant-loop-field
-invariant-loop-field l = is_present (names_of_protocol l.db l.protocol) l.name (drop l.field-index l.present) ≡ is_present (names_of_protocol l.db l.protocol) l.name l.present
+invariant-loop-field l = some_in l.numbers (drop l.field-index l.present) ≡ some_in l.numbers l.present

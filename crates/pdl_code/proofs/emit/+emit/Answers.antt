@@ -1,6 +1,7 @@
 use Rattle.std.proofs.Common.{◌≡◌, ◌-◌, map, length, ◌∙◌, sym, ap, Ok}
 use Rattle.std.specs.Prelude.{slice_set}
 use Rattle.db_model.specs.declared.element.Element as element
+use Rattle.pdl_code.specs.Coding.{resolved}
 use Rattle.pdl_code.specs.Parts.{counts, case_range, jumps_to}
 use Rattle.pdl_code.specs.declared.code.Op.TheVariants as op
 use Rattle.pdl_code.proofs.Elements.{counts_field, counts_block, counts_include, counts_loop, counts_control, counts_switch, counts_if, counts_assign, counts_update, counts_next, code_field, code_block, code_include, code_loop, code_control, code_switch, code_if, code_assign, code_update, code_next}
@@ -34,7 +35,7 @@ pub element-returns-in-NextProto : goal.element-returns-in-NextProto
 element-returns-in-NextProto t c = as_element c.args.db.now c.args.protocol c.args.x.now (element.NextProto c.in-NextProto.line c.in-NextProto.proto) _ _ c.args.ops.now c.next_proto.new.ops c.args.at c.next_proto.result c.in-NextProto.is (counts_next c.in-NextProto.line c.in-NextProto.proto) (code_next c.args.db.now c.args.protocol c.in-NextProto.line c.in-NextProto.proto) c.next_proto.ensures
 
 pub looped-returns : goal.looped-returns
-looped-returns t c = loop_wrote c.args.db.now c.args.protocol c.args.xs.now c.args.kind c.args.value.now c.in_ok-value.value c.args.ops.now c.body.new.ops c.set.new.self c.len-start.result c.len.result c.args.at c.in_ok-to.to c.in_ok-value.ensures c.len-start.ensures c.in_ok-to.ensures c.len.ensures c.set.ensures
+looped-returns t c = loop_wrote c.args.db.now c.args.protocol c.args.xs.now c.args.kind (resolved c.args.db.now c.args.protocol c.args.value.now) c.in_ok-value.value c.args.ops.now c.body.new.ops c.set.new.self c.len-start.result c.len.result c.args.at c.in_ok-to.to c.in_ok-value.ensures.code c.len-start.ensures c.in_ok-to.ensures c.len.ensures c.set.ensures
 
 pub element-write_switch-requires-clause-ends : goal.element-write_switch-requires-clause-ends
 element-write_switch-requires-clause-ends t c = switch_ends c.args.db.now c.args.protocol c.as_slice-in-Switch.result.now c.in-Switch.otherwise c.args.ops.now c.push.new.self c.bodies.new.ops c.other.new.ops c.len-start.result c.len-middle.result c.args.at c.in_ok-to-in-Switch.to c.in_ok-bodies-in-Switch.bodies c.len-start.ensures c.in_ok-push-in-Switch.ensures.ok c.in_ok-bodies-in-Switch.ensures c.len-middle.ensures c.in_ok-to-in-Switch.ensures
@@ -42,14 +43,14 @@ element-write_switch-requires-clause-ends t c = switch_ends c.args.db.now c.args
 pub element-returns-in_ok-write_switch-in-Switch : goal.element-returns-in_ok-write_switch-in-Switch
 element-returns-in_ok-write_switch-in-Switch t c =
     let same : c.as_slice-in-Switch-2.result.now ≡ c.as_slice-in-Switch.result.now = c.as_slice-in-Switch-2.ensures ∙ sym c.as_slice-in-Switch.ensures in
-    let written = c.in_ok-write_switch-in-Switch.ensures ∙ ap (λ l. slice_set (jumps_to (length c.other.new.ops) c.in_ok-bodies-in-Switch.bodies.ends c.other.new.ops) c.len-start.result (op.Switch c.in-Switch.expr (map case_range l) c.in_ok-bodies-in-Switch.bodies.begins (c.len-middle.result - c.len-start.result - 1))) same in
+    let written = c.in_ok-write_switch-in-Switch.ensures ∙ ap (λ l. slice_set (jumps_to (length c.other.new.ops) c.in_ok-bodies-in-Switch.bodies.ends c.other.new.ops) c.len-start.result (op.Switch (resolved c.args.db.now c.args.protocol c.in-Switch.expr) (record { ranges = map case_range l; targets = c.in_ok-bodies-in-Switch.bodies.begins; otherwise = c.len-middle.result - c.len-start.result - 1 }))) same in
     as_element c.args.db.now c.args.protocol c.args.x.now (element.Switch c.in-Switch.line c.in-Switch.expr c.as_slice-in-Switch.result.now c.in-Switch.otherwise) _ _ c.args.ops.now c.write_switch.new.ops c.args.at (Ok c.in_ok-to-in-Switch.to) (c.in-Switch.is ∙ ap (λ b. element.Switch c.in-Switch.line c.in-Switch.expr b c.in-Switch.otherwise) (sym c.as_slice-in-Switch.ensures)) (counts_switch c.in-Switch.line c.in-Switch.expr c.as_slice-in-Switch.result.now c.in-Switch.otherwise) (code_switch c.args.db.now c.args.protocol c.in-Switch.line c.in-Switch.expr c.as_slice-in-Switch.result.now c.in-Switch.otherwise)
-    (switch_wrote c.args.db.now c.args.protocol c.as_slice-in-Switch.result.now c.in-Switch.otherwise c.args.ops.now c.push.new.self c.bodies.new.ops c.other.new.ops c.len-start.result c.len-middle.result c.args.at c.in_ok-to-in-Switch.to c.in_ok-bodies-in-Switch.bodies c.len-start.ensures c.in_ok-push-in-Switch.ensures.ok c.in_ok-bodies-in-Switch.ensures c.len-middle.ensures c.in_ok-to-in-Switch.ensures c.in-Switch.expr c.write_switch.new.ops written)
+    (switch_wrote c.args.db.now c.args.protocol c.as_slice-in-Switch.result.now c.in-Switch.otherwise c.args.ops.now c.push.new.self c.bodies.new.ops c.other.new.ops c.len-start.result c.len-middle.result c.args.at c.in_ok-to-in-Switch.to c.in_ok-bodies-in-Switch.bodies c.len-start.ensures c.in_ok-push-in-Switch.ensures.ok c.in_ok-bodies-in-Switch.ensures c.len-middle.ensures c.in_ok-to-in-Switch.ensures (resolved c.args.db.now c.args.protocol c.in-Switch.expr) c.write_switch.new.ops written)
 
 pub element-returns-in_ok-write_test-in-If : goal.element-returns-in_ok-write_test-in-If
 element-returns-in_ok-write_test-in-If t c =
     as_element c.args.db.now c.args.protocol c.args.x.now (element.If c.in-If.line c.in-If.expr c.in-If.true_line c.as_slice-in-If.result.now c.in-If.if_false) _ _ c.args.ops.now c.write_test.new.ops c.args.at (Ok c.in_ok-to-in-If.to) (c.in-If.is ∙ ap (λ b. element.If c.in-If.line c.in-If.expr c.in-If.true_line b c.in-If.if_false) (sym c.as_slice-in-If.ensures)) (counts_if c.in-If.line c.in-If.expr c.in-If.true_line c.as_slice-in-If.result.now c.in-If.if_false) (code_if c.args.db.now c.args.protocol c.in-If.line c.in-If.expr c.in-If.true_line c.as_slice-in-If.result.now c.in-If.if_false)
-    (test_wrote c.args.db.now c.args.protocol c.as_slice-in-If.result.now c.in-If.if_false c.args.ops.now c.push-in-If.new.self c.list.new.ops c.push-in-If-2.new.self c.other-in-If.new.ops c.len-start-in-If.result c.len-middle-in-If.result c.args.at c.in_ok-behind-in-If.behind c.in_ok-to-in-If.to c.len-start-in-If.ensures c.in_ok-push-in-If.ensures.ok c.in_ok-behind-in-If.ensures c.len-middle-in-If.ensures c.in_ok-push-in-If-2.ensures.ok c.in_ok-to-in-If.ensures c.in-If.expr c.write_test.new.ops c.in_ok-write_test-in-If.ensures)
+    (test_wrote c.args.db.now c.args.protocol c.as_slice-in-If.result.now c.in-If.if_false c.args.ops.now c.push-in-If.new.self c.list.new.ops c.push-in-If-2.new.self c.other-in-If.new.ops c.len-start-in-If.result c.len-middle-in-If.result c.args.at c.in_ok-behind-in-If.behind c.in_ok-to-in-If.to c.len-start-in-If.ensures c.in_ok-push-in-If.ensures.ok c.in_ok-behind-in-If.ensures c.len-middle-in-If.ensures c.in_ok-push-in-If-2.ensures.ok c.in_ok-to-in-If.ensures (resolved c.args.db.now c.args.protocol c.in-If.expr) c.write_test.new.ops c.in_ok-write_test-in-If.ensures)
 
 pub element-returns-in-Update : goal.element-returns-in-Update
 element-returns-in-Update t c = as_element c.args.db.now c.args.protocol c.args.x.now (element.Update c.in-Update.line c.in-Update.table c.in-Update.validity c.in-Update.keep c.in-Update.hit c.as_slice-in-Update.result.now c.as_slice-in-Update-2.result.now) _ _ c.args.ops.now c.update.new.ops c.args.at c.update.result (c.in-Update.is ∙ ap (λ b. element.Update c.in-Update.line c.in-Update.table c.in-Update.validity c.in-Update.keep c.in-Update.hit b c.in-Update.row) (sym c.as_slice-in-Update.ensures) ∙ ap (λ b. element.Update c.in-Update.line c.in-Update.table c.in-Update.validity c.in-Update.keep c.in-Update.hit c.as_slice-in-Update.result.now b) (sym c.as_slice-in-Update-2.ensures)) (counts_update c.in-Update.line c.in-Update.table c.in-Update.validity c.in-Update.keep c.in-Update.hit c.as_slice-in-Update.result.now c.as_slice-in-Update-2.result.now) (code_update c.args.db.now c.args.protocol c.in-Update.line c.in-Update.table c.in-Update.validity c.in-Update.keep c.in-Update.hit c.as_slice-in-Update.result.now c.as_slice-in-Update-2.result.now) c.update.ensures

@@ -1,0 +1,6 @@
+use Rattle.std.proofs.Common.{◌≡◌, ◌++◌, drop, map}
+use Rattle.pdl_code.specs.Coding.{key_code}
+use Rattle.pdl_code.proofs.entry.keys.Given as goal
+
+abbrev pub invariant-loop-x : goal.invariant-loop-x
+invariant-loop-x l = l.codes ++ map (key_code l.db l.protocol) (drop l.x-index l.of) ≡ map (key_code l.db l.protocol) l.of

@@ -1,2 +1,0 @@
-pub mod LawsHold
-pub mod PartsLemmas
