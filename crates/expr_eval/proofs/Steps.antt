@@ -7,7 +7,6 @@ use Rattle.db_model.specs.declared.database.KeyDecl.{KeyDecl}
 use Rattle.db_model.specs.declared.database.TableDecl.{TableDecl}
 use Rattle.db_model.specs.declared.env.Env.{Env}
 use Rattle.db_model.specs.declared.question.Question.TheVariants.{Look}
-use Rattle.db_model.specs.declared.packet.Packet.{Packet}
 use Rattle.db_model.specs.declared.tree.Reason.{Reason}
 use Rattle.db_model.specs.declared.value.Value.{Value}
 use Rattle.db_model.specs.Expression.{Eval, ◌>>=◌, result, num, buf, is_so, when, keys_from}

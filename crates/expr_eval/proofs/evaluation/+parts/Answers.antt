@@ -8,13 +8,11 @@ use Rattle.db_model.specs.declared.database.TableDecl.{TableDecl}
 use Rattle.db_model.specs.Over.{point}
 use Rattle.expr_eval.specs.declared.end.EvalEnd.TheVariants.{NoMemory as Refused}
 use Rattle.db_model.specs.Expression.{Eval, key_sizes, num, buf, truth, is_so, special_value, value_or_zero, give}
-use Rattle.expr_code.specs.Meaning.{code_val, code_value}
+use Rattle.expr_code.specs.Meaning.{code_val}
 use Rattle.db_model.specs.Numbers.{occurs}
 use Rattle.expr_eval.specs.declared.operand.Operand.TheVariants.{Own}
 use Rattle.expr_eval.specs.Operand.{shown}
 use Rattle.expr_eval.specs.Sources.{sources}
-use Rattle.expr_eval.specs.Evaluates.{Gave}
-use Rattle.expr_eval.specs.Reads.{field_value, column_value}
 use Rattle.expr_eval.proofs.Forms.{not_is, and_is, or_is, binary_is, slice_is, to_number_is, length_is, to_bytes_is, has_text_is, look_up_is, number_is, text_is, protocol_is, field_is, special_is, variable_is, column_is, is_present_is}
 use Rattle.expr_eval.proofs.Steps.{same, same_as, recast, gives, refused, then_ok, then_err, then_so, then_not, finish_1, finish_2, finish_3, own_is, Keys_so_far, no_keys_yet, key_unevaluated, key_unmade, key_made, keys_end, keys_fitted, key_missing, keys_then, look_is_fit, drop_some, drop_past, drop_beyond, drop_leaves, drop_all, drop_at, keys_at}
 use Rattle.expr_eval.proofs.evaluation.+parts.Goals as goal

@@ -1,4 +1,4 @@
-use Rattle.std.proofs.Common.{◌≡◌, ◌∙◌, true, false, sym, ap, refl, Some, Option, slice_get, ℕ, List}
+use Rattle.std.proofs.Common.{◌≡◌, ◌∙◌, true, false, sym, ap, refl, Some, Option, ℕ, List}
 use Rattle.expr_code.specs.Meaning.{is_in}
 use Rattle.expr_eval.specs.Operand.{bytes_at}
 use Rattle.expr_eval.proofs.Backwards.{got, last_here, last_before}
