@@ -1,8 +1,17 @@
 -- The decoded fields, looked at from the last one back.
-use Rattle.std.specs.Prelude.{◌≡◌, ℕ, ◌+◌, ◌-◌, ◌<◌, Bool, true, false, if◌then◌else◌, List, [], ◌∷◌, ◌++◌, length, take, Option, Some, None}
+use Rattle.std.specs.Prelude.{◌≡◌, ℕ, zero, suc, ◌+◌, ◌-◌, ◌<◌, Bool, true, false, if◌then◌else◌, List, [], ◌∷◌, ◌++◌, length, take, slice_get, Option, Some, None}
 use Rattle.std.proofs.Common.{refl, sym, ap, ◌∙◌, arith, get_or}
 use Rattle.std.proofs.lemmas.List.{take_more}
 use Rattle.expr_code.specs.Meaning.{is_in, last_in}
+
+-- what was read at a place stands there
+stands : (xs : List (ℕ × List ℕ)) (at : ℕ) (d : ℕ × List ℕ) → at < length xs → d ≡ get_or xs at d → slice_get xs at ≡ Some d
+stands [] at d l e = absurd (omega arith)
+stands (x ∷ xs) zero d l e = ap (λ (y : ℕ × List ℕ). Some y) (sym e)
+stands (x ∷ xs) (suc at) d l e = stands xs at d (omega arith) e
+
+pub got : (xs : List (ℕ × List ℕ)) (i at : ℕ) (d : ℕ × List ℕ) → i < length xs → at ≡ length xs - 1 - i → d ≡ get_or xs at d → slice_get xs at ≡ Some d
+got xs i at d l p e = stands xs at d (omega (arith, p)) e
 
 module _ (numbers : List ℕ) where
   last_behind : (xs : List (ℕ × List ℕ)) (f : ℕ × List ℕ) (o : Option (List ℕ)) → last_in numbers (xs ++ f ∷ []) o ≡ (if is_in numbers f.0 then Some f.1 else last_in numbers xs o)

@@ -7,7 +7,6 @@ use Rattle.db_model.specs.declared.database.KeyDecl.{KeyDecl}
 use Rattle.db_model.specs.declared.database.TableDecl.{TableDecl}
 use Rattle.db_model.specs.declared.env.Env.{Env}
 use Rattle.db_model.specs.declared.question.Question.TheVariants.{Look}
-use Rattle.db_model.specs.declared.packet.Packet.{Packet}
 use Rattle.db_model.specs.declared.tree.Reason.{Reason}
 use Rattle.db_model.specs.declared.value.Value.{Value}
 use Rattle.db_model.specs.Expression.{Eval, ◌>>=◌, result, num, buf, is_so, when, keys_from}
@@ -23,6 +22,7 @@ use Rattle.expr_eval.specs.declared.operand.Operand.{Operand}
 use Rattle.expr_eval.specs.declared.operand.Operand.TheVariants.{Own}
 use Rattle.expr_eval.specs.Operand.{shown}
 use Rattle.expr_eval.specs.Reads.{looked_up}
+use Rattle.expr_eval.specs.Sources.{Sources, sources}
 use Rattle.expr_eval.specs.Evaluates.{outcome, Stays, Evaluates, itself, Gave}
 
 stays_on : (x y z : Env) → Stays x y → Stays y z → Stays x z
@@ -32,35 +32,39 @@ stays_on x y z h k = k ∙ ap (λ (e : Env). record e { hits = z.hits; questions
 pub packet_stays : (x y : Env) → Stays x y → y.packet ≡ x.packet
 packet_stays x y h = ap (λ (e : Env). e.packet) h
 
+-- what operands are read from stays
+pub sources_stay : (x y : Env) → Stays x y → sources y ≡ sources x
+sources_stay x y h = ap sources h
+
 module _ {A B : Type 0} (db : Database) where
   -- a computation that is another one from where it begins
-  pub same : {p q : Eval A} {f : List ℕ → B → A} {m n : Point Env} {o : Result B EvalEnd} → p m.held ≡ q m.held → Evaluates db q f m o n → Evaluates db p f m o n
-  same {p} {q} {f} {m} {n} {o} e h = record { ends = (leads_same db m.held.packet.stamp p q m e).leads (outcome (f m.held.packet.bytes) o) n h.ends; stays = h.stays }
+  pub same : {p q : Eval A} {f : Sources → B → A} {m n : Point Env} {o : Result B EvalEnd} → p m.held ≡ q m.held → Evaluates db q f m o n → Evaluates db p f m o n
+  same {p} {q} {f} {m} {n} {o} e h = record { ends = (leads_same db m.held.packet.stamp p q m e).leads (outcome (f (sources m.held)) o) n h.ends; stays = h.stays }
 
   -- a result that is there
-  pub gives : {f : List ℕ → B → A} {m : Point Env} {o : Result B EvalEnd} (r : Result A Reason) → Gave (f m.held.packet.bytes) r o → Evaluates db (result r) f m o m
+  pub gives : {f : Sources → B → A} {m : Point Env} {o : Result B EvalEnd} (r : Result A Reason) → Gave (f (sources m.held)) r o → Evaluates db (result r) f m o m
   gives {f} {m} {o} r h = by o h
     where
-      by : (o : Result B EvalEnd) → Gave (f m.held.packet.bytes) r o → Evaluates db (result r) f m o m
-      by (Ok b) h = record { ends = subst (λ (x : Result A Reason). Ends db m.held.packet.stamp (pure x) m (Ok (Ok (f m.held.packet.bytes b))) m) (sym h) (ends_pure db m.held.packet.stamp (Ok (f m.held.packet.bytes b)) m.held m.content m.told); stays = refl }
+      by : (o : Result B EvalEnd) → Gave (f (sources m.held)) r o → Evaluates db (result r) f m o m
+      by (Ok b) h = record { ends = subst (λ (x : Result A Reason). Ends db m.held.packet.stamp (pure x) m (Ok (Ok (f (sources m.held) b))) m) (sym h) (ends_pure db m.held.packet.stamp (Ok (f (sources m.held) b)) m.held m.content m.told); stays = refl }
       by (Err (end.Fault r')) h = record { ends = subst (λ (x : Result A Reason). Ends db m.held.packet.stamp (pure x) m (Ok (Err r')) m) (sym h) (ends_pure db m.held.packet.stamp (Err r') m.held m.content m.told); stays = refl }
       by (Err end.NoMemory) h = record { ends = ends_refused db m.held.packet.stamp (result r) (record {}) m.held m.held m.content m.told; stays = refl }
 
   -- memory refused before anything was asked
-  pub refused : {f : List ℕ → B → A} {m : Point Env} (p : Eval A) → Evaluates db p f m (Err end.NoMemory) m
+  pub refused : {f : Sources → B → A} {m : Point Env} (p : Eval A) → Evaluates db p f m (Err end.NoMemory) m
   refused {f} {m} p = record { ends = ends_refused db m.held.packet.stamp p (record {}) m.held m.held m.content m.told; stays = refl }
 
 module _ {A B C D : Type 0} (db : Database) where
   -- after the first part, the rest is what follows its value
-  pub then_ok : {p : Eval A} (g : A → Eval C) {f : List ℕ → B → A} {h : List ℕ → D → C} {m n k : Point Env} {o : Result D EvalEnd} (b : B) → Evaluates db p f m (Ok b) n → Evaluates db (g (f m.held.packet.bytes b)) h n o k → Evaluates db (p >>= g) h m o k
+  pub then_ok : {p : Eval A} (g : A → Eval C) {f : Sources → B → A} {h : Sources → D → C} {m n k : Point Env} {o : Result D EvalEnd} (b : B) → Evaluates db p f m (Ok b) n → Evaluates db (g (f (sources m.held) b)) h n o k → Evaluates db (p >>= g) h m o k
   then_ok {p} g {f} {h} {m} {n} {k} {o} b x y = record {
-    ends = (leads_then db m.held.packet.stamp p (on_ok g) m n (Ok (f m.held.packet.bytes b)) x.ends).leads (outcome (h m.held.packet.bytes) o) k
-        (subst (λ (q : Packet). Ends db q.stamp (g (f m.held.packet.bytes b)) n (outcome (h q.bytes) o) k) (packet_stays m.held n.held x.stays) y.ends);
+    ends = (leads_then db m.held.packet.stamp p (on_ok g) m n (Ok (f (sources m.held) b)) x.ends).leads (outcome (h (sources m.held)) o) k
+        (subst (λ (z : Env). Ends db z.packet.stamp (g (f (sources m.held) b)) n (outcome (h (sources z)) o) k) x.stays y.ends);
     stays = stays_on m.held n.held k.held x.stays y.stays;
   }
 
   -- the first reason is the reason of the whole
-  pub then_err : {p : Eval A} (g : A → Eval C) {f : List ℕ → B → A} {h : List ℕ → D → C} {m n : Point Env} (e : EvalEnd) → Evaluates db p f m (Err e) n → Evaluates db (p >>= g) h m (Err e) n
+  pub then_err : {p : Eval A} (g : A → Eval C) {f : Sources → B → A} {h : Sources → D → C} {m n : Point Env} (e : EvalEnd) → Evaluates db p f m (Err e) n → Evaluates db (p >>= g) h m (Err e) n
   then_err {p} g {f} {h} {m} {n} (end.Fault r) x = record {
     ends = (leads_then db m.held.packet.stamp p (on_ok g) m n (Err r) x.ends).leads (Ok (Err r)) n (ends_pure db m.held.packet.stamp (Err r) n.held n.content n.told);
     stays = x.stays;
@@ -71,63 +75,63 @@ module _ {A B C D : Type 0} (db : Database) where
 
 module _ (db : Database) where
   -- the same computation, and the same answer
-  pub same_as : {A B : Type 0} {p q : Eval A} {f : List ℕ → B → A} {m n : Point Env} {o : Result B EvalEnd} → p ≡ q → Evaluates db q f m o n → Evaluates db p f m o n
+  pub same_as : {A B : Type 0} {p q : Eval A} {f : Sources → B → A} {m n : Point Env} {o : Result B EvalEnd} → p ≡ q → Evaluates db q f m o n → Evaluates db p f m o n
   same_as {m = m} e h = same db (ap (λ r. r m.held) e) h
 
-  pub recast : {A B : Type 0} {p : Eval A} {f : List ℕ → B → A} {m n : Point Env} {o o' : Result B EvalEnd} → o ≡ o' → Evaluates db p f m o' n → Evaluates db p f m o n
+  pub recast : {A B : Type 0} {p : Eval A} {f : Sources → B → A} {m n : Point Env} {o o' : Result B EvalEnd} → o ≡ o' → Evaluates db p f m o' n → Evaluates db p f m o n
   recast {p = p} {f = f} {m = m} {n = n} e h = subst (λ o. Evaluates db p f m o n) (sym e) h
 
   -- an answer that is known at the first state, or at the last
-  pub finish_1 : {p : Eval Value} {m n : Point Env} {o : Result Operand EvalEnd} (d : Value → Result Value Reason) (x : Operand) → Evaluates db p shown m (Ok x) n → Gave (shown n.held.packet.bytes) (d (shown n.held.packet.bytes x)) o → Evaluates db (p >>= (λ v. result (d v))) shown m o n
+  pub finish_1 : {p : Eval Value} {m n : Point Env} {o : Result Operand EvalEnd} (d : Value → Result Value Reason) (x : Operand) → Evaluates db p shown m (Ok x) n → Gave (shown (sources n.held)) (d (shown (sources n.held) x)) o → Evaluates db (p >>= (λ v. result (d v))) shown m o n
   finish_1 {p} {m} {n} {o} d x h g =
-      then_ok db (λ v. result (d v)) x h (gives db (d (shown m.held.packet.bytes x))
-      (subst (λ (q : Packet). Gave (shown n.held.packet.bytes) (d (shown q.bytes x)) o) (packet_stays m.held n.held h.stays) g))
+      then_ok db (λ v. result (d v)) x h (gives db (d (shown (sources m.held) x))
+      (subst (λ (q : Sources). Gave (shown (sources n.held)) (d (shown q x)) o) (sources_stay m.held n.held h.stays) g))
 
   pub finish_2 : {p q : Eval Value} {m n k : Point Env} {o : Result Operand EvalEnd} (d : Value → Value → Result Value Reason) (x y : Operand) → Evaluates db p shown m (Ok x) n → Evaluates db q shown n (Ok y) k
-      → Gave (shown k.held.packet.bytes) (d (shown k.held.packet.bytes x) (shown k.held.packet.bytes y)) o → Evaluates db (p >>= (λ v. q >>= (λ w. result (d v w)))) shown m o k
+      → Gave (shown (sources k.held)) (d (shown (sources k.held) x) (shown (sources k.held) y)) o → Evaluates db (p >>= (λ v. q >>= (λ w. result (d v w)))) shown m o k
   finish_2 {p} {q} {m} {n} {k} {o} d x y h i g =
-      then_ok db (λ v. q >>= (λ w. result (d v w))) x h (finish_1 (d (shown m.held.packet.bytes x)) y i
-      (subst (λ (r : Packet). Gave (shown k.held.packet.bytes) (d (shown r.bytes x) (shown k.held.packet.bytes y)) o) (packet_stays n.held k.held i.stays ∙ packet_stays m.held n.held h.stays) g))
+      then_ok db (λ v. q >>= (λ w. result (d v w))) x h (finish_1 (d (shown (sources m.held) x)) y i
+      (subst (λ (r : Sources). Gave (shown (sources k.held)) (d (shown r x) (shown (sources k.held) y)) o) (sources_stay n.held k.held i.stays ∙ sources_stay m.held n.held h.stays) g))
 
   pub finish_3 : {p q r : Eval Value} {m n k l : Point Env} {o : Result Operand EvalEnd} (d : Value → Value → Value → Result Value Reason) (x y z : Operand) → Evaluates db p shown m (Ok x) n → Evaluates db q shown n (Ok y) k → Evaluates db r shown k (Ok z) l
-      → Gave (shown l.held.packet.bytes) (d (shown l.held.packet.bytes x) (shown l.held.packet.bytes y) (shown l.held.packet.bytes z)) o → Evaluates db (p >>= (λ v. q >>= (λ w. r >>= (λ u. result (d v w u))))) shown m o l
+      → Gave (shown (sources l.held)) (d (shown (sources l.held) x) (shown (sources l.held) y) (shown (sources l.held) z)) o → Evaluates db (p >>= (λ v. q >>= (λ w. r >>= (λ u. result (d v w u))))) shown m o l
   finish_3 {p} {q} {r} {m} {n} {k} {l} {o} d x y z h i j g =
-      then_ok db (λ v. q >>= (λ w. r >>= (λ u. result (d v w u)))) x h (finish_2 (d (shown m.held.packet.bytes x)) y z i j
-      (subst (λ (s : Packet). Gave (shown l.held.packet.bytes) (d (shown s.bytes x) (shown l.held.packet.bytes y) (shown l.held.packet.bytes z)) o)
-      (packet_stays k.held l.held j.stays ∙ packet_stays n.held k.held i.stays ∙ packet_stays m.held n.held h.stays) g))
+      then_ok db (λ v. q >>= (λ w. r >>= (λ u. result (d v w u)))) x h (finish_2 (d (shown (sources m.held) x)) y z i j
+      (subst (λ (s : Sources). Gave (shown (sources l.held)) (d (shown s x) (shown (sources l.held) y) (shown (sources l.held) z)) o)
+      (sources_stay k.held l.held j.stays ∙ sources_stay n.held k.held i.stays ∙ sources_stay m.held n.held h.stays) g))
 
   -- a value decides what follows
-  pub then_so : {p q : Eval Value} (r : Eval Value) {m n k : Point Env} {o : Result Operand EvalEnd} (x : Operand) → Evaluates db p shown m (Ok x) n → is_so (num (shown m.held.packet.bytes x)) ≡ true → Evaluates db q shown n o k → Evaluates db (p >>= (λ v. if is_so (num v) then q else r)) shown m o k
+  pub then_so : {p q : Eval Value} (r : Eval Value) {m n k : Point Env} {o : Result Operand EvalEnd} (x : Operand) → Evaluates db p shown m (Ok x) n → is_so (num (shown (sources m.held) x)) ≡ true → Evaluates db q shown n o k → Evaluates db (p >>= (λ v. if is_so (num v) then q else r)) shown m o k
   then_so {p} {q} r {m} {n} {k} {o} x h b i =
       then_ok db (λ v. if is_so (num v) then q else r) x h (subst (λ (c : Bool). Evaluates db (if c then q else r) shown n o k) (sym b) i)
 
-  pub then_not : {p r : Eval Value} (q : Eval Value) {m n k : Point Env} {o : Result Operand EvalEnd} (x : Operand) → Evaluates db p shown m (Ok x) n → is_so (num (shown m.held.packet.bytes x)) ≡ false → Evaluates db r shown n o k → Evaluates db (p >>= (λ v. if is_so (num v) then q else r)) shown m o k
+  pub then_not : {p r : Eval Value} (q : Eval Value) {m n k : Point Env} {o : Result Operand EvalEnd} (x : Operand) → Evaluates db p shown m (Ok x) n → is_so (num (shown (sources m.held) x)) ≡ false → Evaluates db r shown n o k → Evaluates db (p >>= (λ v. if is_so (num v) then q else r)) shown m o k
   then_not {p} {r} q {m} {n} {k} {o} x h b i =
       then_ok db (λ v. if is_so (num v) then q else r) x h (subst (λ (c : Bool). Evaluates db (if c then q else r) shown n o k) (sym b) i)
 
   -- memory refused after the whole was done
-  pub refused_after : {A B C : Type 0} {p : Eval A} {f : List ℕ → B → A} (h : List ℕ → C → A) {m n : Point Env} (b : B) → Evaluates db p f m (Ok b) n → Evaluates db p h m (Err end.NoMemory) n
+  pub refused_after : {A B C : Type 0} {p : Eval A} {f : Sources → B → A} (h : Sources → C → A) {m n : Point Env} (b : B) → Evaluates db p f m (Ok b) n → Evaluates db p h m (Err end.NoMemory) n
   refused_after {p = p} h {m} {n} b x = record {
     ends = record { ends = record { done = (play db m.held.packet.stamp (p m.held) m.content).log; rest = []; is_prefix = sym (append-nil (play db m.held.packet.stamp (p m.held) m.content).log); follows = x.ends.ends.follows } };
     stays = x.stays;
   }
 
-  pub kept : {A B C : Type 0} {p : Eval A} {f : List ℕ → B → A} (h : List ℕ → C → A) {m n : Point Env} (b : B) (c : C) → f m.held.packet.bytes b ≡ h m.held.packet.bytes c → Evaluates db p f m (Ok b) n → Evaluates db p h m (Ok c) n
+  pub kept : {A B C : Type 0} {p : Eval A} {f : Sources → B → A} (h : Sources → C → A) {m n : Point Env} (b : B) (c : C) → f (sources m.held) b ≡ h (sources m.held) c → Evaluates db p f m (Ok b) n → Evaluates db p h m (Ok c) n
   kept {p = p} h {m} {n} b c e x = record { ends = subst (λ v. Ends db m.held.packet.stamp p m (Ok (Ok v)) n) e x.ends; stays = x.stays }
 
 -- an answer that gives no value stands for itself
-pub unvalued : (db : Database) {A B C : Type 0} {p : Eval A} (f : List ℕ → B → A) {h : List ℕ → C → A} {m n : Point Env} (e : EvalEnd) → Evaluates db p f m (Err e) n → Evaluates db p h m (Err e) n
+pub unvalued : (db : Database) {A B C : Type 0} {p : Eval A} (f : Sources → B → A) {h : Sources → C → A} {m n : Point Env} (e : EvalEnd) → Evaluates db p f m (Err e) n → Evaluates db p h m (Err e) n
 unvalued db f (end.Fault r) x = record { ends = x.ends; stays = x.stays }
 unvalued db f end.NoMemory x = record { ends = x.ends; stays = x.stays }
 
 -- an operand is handed out as its value, unless memory for it is refused
-pub handed : (db : Database) {p : Eval Value} {m n : Point Env} (x : Operand) (o : Result Value EvalEnd) → Evaluates db p shown m (Ok x) n → MatchResult o (λ v. v ≡ shown n.held.packet.bytes x) (λ e. e ≡ end.NoMemory) → Evaluates db p itself m o n
-handed db {p} {m} {n} x (Ok v) h e = kept db itself x v (sym (e ∙ ap (λ (q : Packet). shown q.bytes x) (packet_stays m.held n.held h.stays))) h
+pub handed : (db : Database) {p : Eval Value} {m n : Point Env} (x : Operand) (o : Result Value EvalEnd) → Evaluates db p shown m (Ok x) n → MatchResult o (λ v. v ≡ shown (sources n.held) x) (λ e. e ≡ end.NoMemory) → Evaluates db p itself m o n
+handed db {p} {m} {n} x (Ok v) h e = kept db itself x v (sym (e ∙ ap (λ (q : Sources). shown q x) (sources_stay m.held n.held h.stays))) h
 handed db {p} {m} {n} x (Err e) h r = recast db (ap Err r) (refused_after db itself x h)
 
 -- an operand that is a value of its own
-pub own_is : (packet : List ℕ) (v : Value) (x : Operand) → x ≡ Own v → Gave (shown packet) (Ok v) (Ok x)
-own_is packet v x e = ap (λ (y : Operand). Ok (shown packet y)) (sym e)
+pub own_is : (held : Sources) (v : Value) (x : Operand) → x ≡ Own v → Gave (shown held) (Ok v) (Ok x)
+own_is held v x e = ap (λ (y : Operand). Ok (shown held y)) (sym e)
 
 -- ---- the keys of a look-up
 
@@ -149,17 +153,17 @@ module _ (db : Database) (sizes : List ℕ) (parts : List (Eval Value)) (m : Poi
   key_unevaluated e k s h = s.goes (Err e) k (then_err db _ e h)
 
   -- it has a wrong size, or memory for it was refused
-  pub key_unmade : (x : Operand) (e : EvalEnd) (k : Point Env) → Keys_so_far db sizes parts m keys (size ∷ left) (p ∷ rest) n → Evaluates db p shown n (Ok x) k → Gave (λ (b : List ℕ). b) (checked_key size (shown k.held.packet.bytes x)) (Err e)
+  pub key_unmade : (x : Operand) (e : EvalEnd) (k : Point Env) → Keys_so_far db sizes parts m keys (size ∷ left) (p ∷ rest) n → Evaluates db p shown n (Ok x) k → Gave (λ (b : List ℕ). b) (checked_key size (shown (sources k.held) x)) (Err e)
       → Evaluates db (keys_from [] sizes parts) itself m (Err e) k
   key_unmade x e k s h g =
-      s.goes (Err e) k (then_ok db _ x h (then_err db _ {f = itself} e (gives db (checked_key size (shown n.held.packet.bytes x))
-      (subst (λ (q : Packet). Gave (λ (b : List ℕ). b) (checked_key size (shown q.bytes x)) (Err e)) (packet_stays n.held k.held h.stays) g))))
+      s.goes (Err e) k (then_ok db _ x h (then_err db _ {f = itself} e (gives db (checked_key size (shown (sources n.held) x))
+      (subst (λ (q : Sources). Gave (λ (b : List ℕ). b) (checked_key size (shown q x)) (Err e)) (sources_stay n.held k.held h.stays) g))))
 
-  pub key_made : (x : Operand) (key : List ℕ) (k : Point Env) → Keys_so_far db sizes parts m keys (size ∷ left) (p ∷ rest) n → Evaluates db p shown n (Ok x) k → Gave (λ (b : List ℕ). b) (checked_key size (shown k.held.packet.bytes x)) (Ok key)
+  pub key_made : (x : Operand) (key : List ℕ) (k : Point Env) → Keys_so_far db sizes parts m keys (size ∷ left) (p ∷ rest) n → Evaluates db p shown n (Ok x) k → Gave (λ (b : List ℕ). b) (checked_key size (shown (sources k.held) x)) (Ok key)
       → Keys_so_far db sizes parts m (keys ++ key ∷ []) left rest k
   key_made x key k s h g = record {
-    goes = λ o l r. s.goes o l (then_ok db _ x h (then_ok db (λ (b : List ℕ). keys_from (keys ++ b ∷ []) left rest) {f = itself} key (gives db (checked_key size (shown n.held.packet.bytes x))
-        (subst (λ (q : Packet). Gave (λ (b : List ℕ). b) (checked_key size (shown q.bytes x)) (Ok key)) (packet_stays n.held k.held h.stays) g)) r));
+    goes = λ o l r. s.goes o l (then_ok db _ x h (then_ok db (λ (b : List ℕ). keys_from (keys ++ b ∷ []) left rest) {f = itself} key (gives db (checked_key size (shown (sources n.held) x))
+        (subst (λ (q : Sources). Gave (λ (b : List ℕ). b) (checked_key size (shown q x)) (Ok key)) (sources_stay n.held k.held h.stays) g)) r));
     fits = λ more r. subst (λ l. keys_fit sizes l ≡ true) (sym (append_assoc keys (key ∷ []) more)) (s.fits (key ∷ more) (one_more key more (size_of g) r));
   }
     where
@@ -167,8 +171,8 @@ module _ (db : Database) (sizes : List ℕ) (parts : List (Eval Value)) (m : Poi
       by true v e g = let same : v ≡ key = cc in ap length (sym same) ∙ (Decides-eqb (length v) size).0 e
       by false v e g = (cc)
 
-      size_of : checked_key size (shown k.held.packet.bytes x) ≡ Ok key → length key ≡ size
-      size_of g = by (length (buf (shown k.held.packet.bytes x)) == size) (buf (shown k.held.packet.bytes x)) refl g
+      size_of : checked_key size (shown (sources k.held) x) ≡ Ok key → length key ≡ size
+      size_of g = by (length (buf (shown (sources k.held) x)) == size) (buf (shown (sources k.held) x)) refl g
 
       one_more : (key : List ℕ) (more : KeyList) → length key ≡ size → keys_fit left more ≡ true → keys_fit (size ∷ left) (key ∷ more) ≡ true
       one_more key more e r = ap (λ (b : Bool). b && keys_fit left more) ((Decides-eqb (length key) size).1 e) ∙ r

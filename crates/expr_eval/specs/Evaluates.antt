@@ -1,5 +1,5 @@
 -- What a call says that has evaluated: what it answers is what the definition gives, its questions are those of the definition in order, and of the state only the rows last hit and the questions left are changed.
-use Rattle.std.specs.Prelude.{◌≡◌, ℕ, List, Result, Ok, Err}
+use Rattle.std.specs.Prelude.{◌≡◌, Result, Ok, Err}
 use Rattle.db_model.specs.declared.database.Database.{Database}
 use Rattle.db_model.specs.declared.env.Env.{Env}
 use Rattle.db_model.specs.declared.no_memory.NoMemory.{NoMemory}
@@ -8,6 +8,7 @@ use Rattle.db_model.specs.Expression.{Eval}
 use Rattle.db_model.specs.Over.{Point, Ends}
 use Rattle.expr_eval.specs.declared.end.EvalEnd.{EvalEnd}
 use Rattle.expr_eval.specs.declared.end.EvalEnd.TheVariants as end
+use Rattle.expr_eval.specs.Sources.{Sources, sources}
 
 -- an answer as the outcome of a computation: want of memory is none of its results
 abbrev pub outcome : {A B : Type 0} → (B → A) → Result B EvalEnd → Result (Result A Reason) NoMemory
@@ -19,14 +20,14 @@ outcome shows (Err end.NoMemory) = Err (record {})
 abbrev pub Stays : Env → Env → Type 0
 Stays z z' = z' ≡ record z { hits = z'.hits; questions = z'.questions }
 
--- p, begun at m, gave this answer at n; an answer stands for a value, given the packet's bytes
-pub record Evaluates {A B : Type 0} (db : Database) (p : Eval A) (shows : List ℕ → B → A) (m : Point Env) (o : Result B EvalEnd) (n : Point Env) : Type 0 where
-  pub ends : Ends db m.held.packet.stamp p m (outcome (shows m.held.packet.bytes) o) n
+-- p, begun at m, gave this answer at n; an answer stands for a value, given what the state holds
+pub record Evaluates {A B : Type 0} (db : Database) (p : Eval A) (shows : Sources → B → A) (m : Point Env) (o : Result B EvalEnd) (n : Point Env) : Type 0 where
+  pub ends : Ends db m.held.packet.stamp p m (outcome (shows (sources m.held)) o) n
   pub stays : Stays m.held n.held
 
 -- an answer that is the value itself
-abbrev pub itself : {A : Type 0} → List ℕ → A → A
-itself packet a = a
+abbrev pub itself : {A : Type 0} → Sources → A → A
+itself held a = a
 
 -- a call without questions gave what the definition gives, or was refused memory
 abbrev pub Gave : {A B : Type 0} → (B → A) → Result A Reason → Result B EvalEnd → Type 0

@@ -1,4 +1,5 @@
 pub mod Evaluates
 pub mod Operand
 pub mod Reads
+pub mod Sources
 pub mod Yields

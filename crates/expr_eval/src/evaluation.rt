@@ -34,7 +34,7 @@ pub fn eval<A: Answers>(
         (point env.new (A.content answers.new) (A.told answers.new)) }
 {
     let operand = evaluate(alloc, code, db, env, answers)?;
-    operand.into_value(alloc, &env.packet.bytes)
+    operand.into_value(alloc, env)
 }
 
 #[cycle(parts)]
@@ -60,7 +60,7 @@ fn evaluate<A: Answers>(
         ExprCode::Field(numbers) => reads::field(numbers, env),
         ExprCode::IsPresent(numbers) => Ok(reads::presence(numbers, env)),
         ExprCode::Special(special) => Ok(reads::special(*special, env)),
-        ExprCode::Variable(place) => reads::variable(*place, env),
+        ExprCode::Variable(place) => Ok(reads::variable(*place, env)),
         ExprCode::Column { table, column } => reads::column(*table, *column, env),
         ExprCode::Not(x) => negation(alloc, x.get(), db, env, answers),
         ExprCode::And(x, y) => conjunction(alloc, x.get(), y.get(), db, env, answers),
@@ -185,7 +185,7 @@ fn operation<A: Answers>(
 {
     let x = evaluate(alloc, parts.0, db, env, answers)?;
     let y = evaluate(alloc, parts.1, db, env, answers)?;
-    operators::binary(op, &x, &y, &env.packet.bytes)
+    operators::binary(op, &x, &y, env)
 }
 
 /// The range is where the slice begins, and how many bytes it has.
@@ -210,7 +210,7 @@ fn slice<A: Answers>(
     let base = evaluate(alloc, base, db, env, answers)?;
     let from = evaluate(alloc, range.0, db, env, answers)?;
     let count = evaluate(alloc, range.1, db, env, answers)?;
-    operators::slice(alloc, &base, &from, &count, &env.packet.bytes)
+    operators::slice(alloc, &base, &from, &count, env)
 }
 
 #[cycle(parts)]
@@ -230,7 +230,7 @@ fn to_number<A: Answers>(
         (env.old, answers.old) result (env.new, answers.new) }
 {
     let x = evaluate(alloc, x, db, env, answers)?;
-    operators::to_number(&x, &env.packet.bytes)
+    operators::to_number(&x, env)
 }
 
 #[cycle(parts)]
@@ -250,7 +250,7 @@ fn length_of<A: Answers>(
         (env.old, answers.old) result (env.new, answers.new) }
 {
     let x = evaluate(alloc, x, db, env, answers)?;
-    Ok(operators::length_of(&x, &env.packet.bytes))
+    Ok(operators::length_of(&x, env))
 }
 
 #[cycle(parts)]
@@ -292,7 +292,7 @@ fn has_text<A: Answers>(
         (env.old, answers.old) result (env.new, answers.new) }
 {
     let x = evaluate(alloc, x, db, env, answers)?;
-    Ok(operators::has_text(&x, text, &env.packet.bytes))
+    Ok(operators::has_text(&x, text, env))
 }
 
 /// A look-up: its keys, and then one question. A table that isn't declared has nothing to hit, and then no key is
@@ -353,7 +353,7 @@ fn keys<A: Answers>(
             None => return Ok(keys),
         };
         let x = evaluate(alloc, part, db, env, answers)?;
-        keys.push(operators::key(alloc, &x, size, &env.packet.bytes)?)?;
+        keys.push(operators::key(alloc, &x, size, env)?)?;
     }
     if parts.len() < sizes.len() {
         return Err(EvalEnd::Fault(Reason::KeySize));

@@ -1,18 +1,20 @@
-ghost use Rattle.std.specs.Prelude.{◌≡◌, None};
-ghost use Rattle.std.specs.Option.{option_copied};
+ghost use Rattle.std.specs.Prelude.{◌≡◌, slice_get, None, Some, MatchOption};
 ghost use Rattle.expr_code.specs.Meaning.{is_in, last_in, some_in};
+ghost use Rattle.expr_eval.specs.Operand.{bytes_at};
 
 use db_model::Bytes;
 
-/// The value of the last of the decoded fields that has one of these numbers. They are looked at from the last one
+/// The place of the last of the decoded fields that has one of these numbers. They are looked at from the last one
 /// back, up to the first that has one.
-pub fn last_value<'a>(numbers: &[u32], present: &'a [(u32, Bytes)]) -> Option<&'a Bytes>
-    ensures { option_copied result ≡ last_in numbers.now present.now None }
+pub fn last_place(numbers: &[u32], present: &[(u32, Bytes)]) -> Option<usize>
+    ensures { MatchOption result (last_in numbers.now present.now None ≡ None)
+        (λ at. last_in numbers.now present.now None ≡ Some (bytes_at (slice_get present.now at))) }
 {
     for i in 0..present.len() {
-        let (field, value) = &present[present.len() - 1 - i];
+        let at = present.len() - 1 - i;
+        let (field, _value) = &present[at];
         if is_among(numbers, *field) {
-            return Some(value);
+            return Some(at);
         }
     }
     None

@@ -1,4 +1,4 @@
-ghost use Rattle.std.specs.Prelude.{◌≡◌, ◌+◌, ◌*◌, ◌^◌, ◌<◌, ◌≤◌, nat_lt, List, ℕ, Ok, Err, MatchOption, MatchResult, IfOk, vec_len, length, take, drop};
+ghost use Rattle.std.specs.Prelude.{◌≡◌, ◌+◌, ◌*◌, ◌^◌, ◌<◌, ◌≤◌, nat_lt, Ok, Err, MatchOption, MatchResult, IfOk, vec_len, length, take, drop};
 ghost use Rattle.db_model.specs.declared.value.Value.TheVariants.{Num};
 ghost use Rattle.db_model.specs.Expression.{num, buf, truth};
 ghost use Rattle.db_model.specs.Expression;
@@ -8,10 +8,11 @@ ghost use Rattle.db_model.specs.Replay.{same_value};
 ghost use Rattle.expr_eval.specs.declared.end.EvalEnd.TheVariants.{NoMemory as Refused};
 ghost use Rattle.expr_eval.specs.Evaluates.{Gave};
 ghost use Rattle.expr_eval.specs.Operand.{shown, seen};
+ghost use Rattle.expr_eval.specs.Sources.{Sources, sources};
 
 use crate::EvalEnd;
-use crate::operand::{Operand, View, bytes_of, piece};
-use db_model::{Bytes, MOST_BYTES, MOST_NUMBER_BYTES, Operator, Reason, Value};
+use crate::operand::{Operand, View, piece};
+use db_model::{Bytes, Env, MOST_BYTES, MOST_NUMBER_BYTES, Operator, Reason, Value};
 use memchr::memmem;
 use std::alloc::Global;
 
@@ -114,7 +115,7 @@ pub fn has_text(within: &[u8], text: &[u8]) -> bool
 
 /// The last so many bytes of a number. Range: the number has more.
 pub fn to_bytes(alloc: Global, n: u32, size: u32) -> Result<Operand, EvalEnd>
-    ensures { (packet : List ℕ) → Gave (shown packet) (Expression.in_bytes size n) result }
+    ensures { (held : Sources) → Gave (shown held) (Expression.in_bytes size n) result }
 {
     if !is_within(n, size) {
         return Err(EvalEnd::Fault(Reason::Range));
@@ -148,30 +149,44 @@ fn cut(bytes: &[u8], from: u32, count: u32) -> Option<&[u8]>
     bytes.get(from as usize..)?.get(..count as usize)
 }
 
+fn cut_copy(alloc: Global, bytes: &[u8], from: u32, count: u32) -> Result<Operand, EvalEnd>
+    requires { length bytes.now ≤ MOST_BYTES }
+    ensures { (held : Sources) → Gave (shown held) (Expression.slice bytes.now from count) result }
+{
+    match cut(bytes, from, count) {
+        Some(piece) => Ok(Operand::Own(Value::Buf(Bytes::copy_of(alloc, piece)?))),
+        None => Err(EvalEnd::Fault(Reason::Slice)),
+    }
+}
+
 /// `count` bytes from the place `from` on. Slice: there are not so many.
 pub fn slice(
     alloc: Global,
     base: &Operand,
-    packet: &Bytes,
+    env: &Env,
     from: u32,
     count: u32,
 ) -> Result<Operand, EvalEnd>
-    ensures { Gave (shown packet.now) (Expression.slice (buf (shown packet.now base.now)) from count) result }
+    ensures { Gave (shown (sources env.now))
+        (Expression.slice (buf (shown (sources env.now) base.now)) from count) result }
 {
     match base {
         Operand::Piece {
             from: start,
             count: all,
-        } => match cut(piece(packet.as_slice(), *start, *all), from, count) {
+        } => match cut(
+            piece(env.packet.bytes.as_slice(), *start, *all),
+            from,
+            count,
+        ) {
             Some(_) => Ok(Operand::Piece {
                 from: *start + from,
                 count,
             }),
             None => Err(EvalEnd::Fault(Reason::Slice)),
         },
-        Operand::Own(value) => match cut(bytes_of(value), from, count) {
-            Some(bytes) => Ok(Operand::Own(Value::Buf(Bytes::copy_of(alloc, bytes)?))),
-            None => Err(EvalEnd::Fault(Reason::Slice)),
-        },
+        Operand::Own(_) | Operand::Field(_) | Operand::Variable(_) => {
+            cut_copy(alloc, base.bytes(env), from, count)
+        }
     }
 }

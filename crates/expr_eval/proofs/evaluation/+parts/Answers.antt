@@ -7,13 +7,12 @@ use Rattle.db_model.specs.declared.database.KeyDecl.{KeyDecl}
 use Rattle.db_model.specs.declared.database.TableDecl.{TableDecl}
 use Rattle.db_model.specs.Over.{point}
 use Rattle.expr_eval.specs.declared.end.EvalEnd.TheVariants.{NoMemory as Refused}
-use Rattle.db_model.specs.Expression.{Eval, key_sizes, num, buf, truth, is_so, special_value, give}
-use Rattle.expr_code.specs.Meaning.{code_val, code_value}
+use Rattle.db_model.specs.Expression.{Eval, key_sizes, num, buf, truth, is_so, special_value, value_or_zero, give}
+use Rattle.expr_code.specs.Meaning.{code_val}
 use Rattle.db_model.specs.Numbers.{occurs}
 use Rattle.expr_eval.specs.declared.operand.Operand.TheVariants.{Own}
 use Rattle.expr_eval.specs.Operand.{shown}
-use Rattle.expr_eval.specs.Evaluates.{Gave}
-use Rattle.expr_eval.specs.Reads.{field_value, column_value}
+use Rattle.expr_eval.specs.Sources.{sources}
 use Rattle.expr_eval.proofs.Forms.{not_is, and_is, or_is, binary_is, slice_is, to_number_is, length_is, to_bytes_is, has_text_is, look_up_is, number_is, text_is, protocol_is, field_is, special_is, variable_is, column_is, is_present_is}
 use Rattle.expr_eval.proofs.Steps.{same, same_as, recast, gives, refused, then_ok, then_err, then_so, then_not, finish_1, finish_2, finish_3, own_is, Keys_so_far, no_keys_yet, key_unevaluated, key_unmade, key_made, keys_end, keys_fitted, key_missing, keys_then, look_is_fit, drop_some, drop_past, drop_beyond, drop_leaves, drop_all, drop_at, keys_at}
 use Rattle.expr_eval.proofs.evaluation.+parts.Goals as goal
@@ -86,7 +85,7 @@ evaluate-returns-in-Field-clause-value g t c =
 pub evaluate-returns-in-Variable-clause-value : goal.evaluate-returns-in-Variable-clause-value
 evaluate-returns-in-Variable-clause-value g t c =
     let db = c.args.db.now in
-    same db (variable_is db c.args.code.now c.in-Variable.place c.args.env.now c.in-Variable.is) (gives db _ (c.variable.ensures _))
+    same db (variable_is db c.args.code.now c.in-Variable.place c.args.env.now c.in-Variable.is) (gives db (Ok (value_or_zero (slice_get c.args.env.now.vars c.in-Variable.place))) (ap (λ (v : Value). Ok v) (sym c.variable.ensures)))
 
 pub evaluate-returns-in-Special-clause-value : goal.evaluate-returns-in-Special-clause-value
 evaluate-returns-in-Special-clause-value g t c =
@@ -117,7 +116,7 @@ negation-returns-in_err-x-clause-value g t c =
 pub negation-returns-clause-value : goal.negation-returns-clause-value
 negation-returns-clause-value g t c =
     let db = c.args.db.now in
-    finish_1 db (λ v. Ok (truth (not (is_so (num v))))) c.in_ok-x.x c.in_ok-x.ensures.value (own_is _ _ _ (c.of_truth.ensures ∙ ap (λ (b : Bool). Own (truth (not b))) (c.is_so.ensures c.evaluate.new.env.packet.bytes)))
+    finish_1 db (λ v. Ok (truth (not (is_so (num v))))) c.in_ok-x.x c.in_ok-x.ensures.value (own_is _ _ _ (c.of_truth.ensures ∙ ap (λ (b : Bool). Own (truth (not b))) (c.is_so.ensures (sources c.evaluate.new.env))))
 
 pub conjunction-returns-in_err-x-clause-value : goal.conjunction-returns-in_err-x-clause-value
 conjunction-returns-in_err-x-clause-value g t c =
@@ -128,21 +127,21 @@ conjunction-returns-in_err-x-clause-value g t c =
 pub conjunction-returns-then-not-is_so-clause-value : goal.conjunction-returns-then-not-is_so-clause-value
 conjunction-returns-then-not-is_so-clause-value g t c =
     let db = c.args.db.now in
-    let b : is_so (num (shown c.args.env.now.packet.bytes c.in_ok-x.x)) ≡ false = sym (c.is_so.ensures c.args.env.now.packet.bytes) ∙ c.if-not-is_so.true in
+    let b : is_so (num (shown (sources c.args.env.now) c.in_ok-x.x)) ≡ false = sym (c.is_so.ensures (sources c.args.env.now)) ∙ c.if-not-is_so.true in
     then_not db _ c.in_ok-x.x c.in_ok-x.ensures.value b (gives db (Ok (Num 0)) (own_is _ (Num 0) _ c.of_number.ensures))
 
 pub conjunction-returns-in_err-y-clause-value : goal.conjunction-returns-in_err-y-clause-value
 conjunction-returns-in_err-y-clause-value g t c =
     let db = c.args.db.now in
     let r : c.from_residual-in_err-y.result ≡ Err c.in_err-y.field-0.0 = search rules in
-    let b : is_so (num (shown c.args.env.now.packet.bytes c.in_ok-x.x)) ≡ true = sym (c.is_so.ensures c.args.env.now.packet.bytes) ∙ c.if-not-is_so.false in
+    let b : is_so (num (shown (sources c.args.env.now) c.in_ok-x.x)) ≡ true = sym (c.is_so.ensures (sources c.args.env.now)) ∙ c.if-not-is_so.false in
     recast db r (then_so db _ c.in_ok-x.x c.in_ok-x.ensures.value b (then_err db _ c.in_err-y.field-0.0 c.in_err-y.ensures.value))
 
 pub conjunction-returns-clause-value : goal.conjunction-returns-clause-value
 conjunction-returns-clause-value g t c =
     let db = c.args.db.now in
-    let b : is_so (num (shown c.args.env.now.packet.bytes c.in_ok-x.x)) ≡ true = sym (c.is_so.ensures c.args.env.now.packet.bytes) ∙ c.if-not-is_so.false in
-    then_so db _ c.in_ok-x.x c.in_ok-x.ensures.value b (finish_1 db (λ v. Ok (truth (is_so (num v)))) c.in_ok-y.y c.in_ok-y.ensures.value (own_is _ _ _ (c.of_truth.ensures ∙ ap (λ (b : Bool). Own (truth b)) (c.is_so-2.ensures c.evaluate-2.new.env.packet.bytes))))
+    let b : is_so (num (shown (sources c.args.env.now) c.in_ok-x.x)) ≡ true = sym (c.is_so.ensures (sources c.args.env.now)) ∙ c.if-not-is_so.false in
+    then_so db _ c.in_ok-x.x c.in_ok-x.ensures.value b (finish_1 db (λ v. Ok (truth (is_so (num v)))) c.in_ok-y.y c.in_ok-y.ensures.value (own_is _ _ _ (c.of_truth.ensures ∙ ap (λ (b : Bool). Own (truth b)) (c.is_so-2.ensures (sources c.evaluate-2.new.env)))))
 
 pub disjunction-returns-in_err-x-clause-value : goal.disjunction-returns-in_err-x-clause-value
 disjunction-returns-in_err-x-clause-value g t c =
@@ -153,21 +152,21 @@ disjunction-returns-in_err-x-clause-value g t c =
 pub disjunction-returns-then-is_so-clause-value : goal.disjunction-returns-then-is_so-clause-value
 disjunction-returns-then-is_so-clause-value g t c =
     let db = c.args.db.now in
-    let b : is_so (num (shown c.args.env.now.packet.bytes c.in_ok-x.x)) ≡ true = sym (c.is_so.ensures c.args.env.now.packet.bytes) ∙ c.if-is_so.true in
+    let b : is_so (num (shown (sources c.args.env.now) c.in_ok-x.x)) ≡ true = sym (c.is_so.ensures (sources c.args.env.now)) ∙ c.if-is_so.true in
     then_so db _ c.in_ok-x.x c.in_ok-x.ensures.value b (gives db (Ok (Num 1)) (own_is _ (Num 1) _ c.of_number.ensures))
 
 pub disjunction-returns-in_err-y-clause-value : goal.disjunction-returns-in_err-y-clause-value
 disjunction-returns-in_err-y-clause-value g t c =
     let db = c.args.db.now in
     let r : c.from_residual-in_err-y.result ≡ Err c.in_err-y.field-0.0 = search rules in
-    let b : is_so (num (shown c.args.env.now.packet.bytes c.in_ok-x.x)) ≡ false = sym (c.is_so.ensures c.args.env.now.packet.bytes) ∙ c.if-is_so.false in
+    let b : is_so (num (shown (sources c.args.env.now) c.in_ok-x.x)) ≡ false = sym (c.is_so.ensures (sources c.args.env.now)) ∙ c.if-is_so.false in
     recast db r (then_not db _ c.in_ok-x.x c.in_ok-x.ensures.value b (then_err db _ c.in_err-y.field-0.0 c.in_err-y.ensures.value))
 
 pub disjunction-returns-clause-value : goal.disjunction-returns-clause-value
 disjunction-returns-clause-value g t c =
     let db = c.args.db.now in
-    let b : is_so (num (shown c.args.env.now.packet.bytes c.in_ok-x.x)) ≡ false = sym (c.is_so.ensures c.args.env.now.packet.bytes) ∙ c.if-is_so.false in
-    then_not db _ c.in_ok-x.x c.in_ok-x.ensures.value b (finish_1 db (λ v. Ok (truth (is_so (num v)))) c.in_ok-y.y c.in_ok-y.ensures.value (own_is _ _ _ (c.of_truth.ensures ∙ ap (λ (b : Bool). Own (truth b)) (c.is_so-2.ensures c.evaluate-2.new.env.packet.bytes))))
+    let b : is_so (num (shown (sources c.args.env.now) c.in_ok-x.x)) ≡ false = sym (c.is_so.ensures (sources c.args.env.now)) ∙ c.if-is_so.false in
+    then_not db _ c.in_ok-x.x c.in_ok-x.ensures.value b (finish_1 db (λ v. Ok (truth (is_so (num v)))) c.in_ok-y.y c.in_ok-y.ensures.value (own_is _ _ _ (c.of_truth.ensures ∙ ap (λ (b : Bool). Own (truth b)) (c.is_so-2.ensures (sources c.evaluate-2.new.env)))))
 
 pub operation-returns-in_err-x-clause-value : goal.operation-returns-in_err-x-clause-value
 operation-returns-in_err-x-clause-value g t c =

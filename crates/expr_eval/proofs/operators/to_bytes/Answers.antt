@@ -5,4 +5,4 @@ use Rattle.expr_eval.specs.Operand.{shown}
 use Rattle.expr_eval.proofs.operators.to_bytes.Goals as goal
 
 pub returns : goal.returns
-returns c = λ packet. subst (λ (n : ℕ). Gave (shown packet) (def.in_bytes c.args.size n) c.to_bytes.result) (c.number.ensures packet) (c.to_bytes.ensures packet)
+returns c = λ held. subst (λ (n : ℕ). Gave (shown held) (def.in_bytes c.args.size n) c.to_bytes.result) (c.number.ensures held) (c.to_bytes.ensures held)
