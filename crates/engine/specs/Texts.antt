@@ -14,9 +14,9 @@ text_if true text = text
 text_if false text = []
 
 -- of each wanted output the buffer holds this text, and of the others nothing
-pub record Hold (wanted : Wanted) (texts : Texts) (pdml psml : List ℕ) : Type 0 where
-  pub pdml : texts.pdml.items ≡ text_if wanted.pdml pdml
-  pub psml : texts.psml.items ≡ text_if wanted.psml psml
+pub record Hold (wanted : Wanted) (texts : Texts) (of_pdml of_psml : List ℕ) : Type 0 where
+  pub pdml : texts.pdml.items ≡ text_if wanted.pdml of_pdml
+  pub psml : texts.psml.items ≡ text_if wanted.psml of_psml
 
 -- the texts of a packet with its tree
 abbrev pub HasTexts : Wanted → Texts → Database → Packet → List Proto → Type 0
