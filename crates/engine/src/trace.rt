@@ -39,12 +39,7 @@ fn why_word(why: Why) -> &'static str
     }
 }
 
-fn push_again(
-    text: &mut Vec<u8>,
-    index: u32,
-    old: &Answer,
-    new: &Answer,
-) -> Result<(), NoMemory>
+fn push_again(text: &mut Vec<u8>, index: u32, old: &Answer, new: &Answer) -> Result<(), NoMemory>
     ensures { OnOk result (text.new.items
         ≡ text.old.items ++ Trace.outcome_text (outcome.Again index old.now new.now)) }
 {
