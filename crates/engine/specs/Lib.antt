@@ -1,0 +1,4 @@
+pub mod Engine
+pub mod Laws
+pub mod Texts
+pub mod Trace

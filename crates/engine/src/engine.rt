@@ -1,0 +1,236 @@
+ghost use Rattle.std.specs.Prelude.{◌≡◌, ◌+◌, ◌<◌, IfOk, OnOk};
+ghost use Rattle.db_model.specs.Decoding.{dec};
+ghost use Rattle.db_model.specs.Over.{extended};
+ghost use Rattle.db_model.specs.declared.limits.TheConstants.{STAMP_END};
+ghost use Rattle.pdml_out.specs.Pdml;
+ghost use Rattle.psml_out.specs.Psml;
+ghost use Rattle.session.specs.State.{new_session};
+ghost use Rattle.engine.specs.Engine.{HasParts};
+ghost use Rattle.engine.specs.Texts.{HasOpenings, HasTexts, text_if};
+
+use crate::texts::{Texts, Wanted, put};
+use db_model::{Answers, CheckedDb, NoMemory, Packet, PacketTree};
+use decode_vm::{Steps, decode};
+use pdl_code::{Code, compile};
+use psml_out::Summaries;
+use session::Session;
+use show::Labels;
+use std::alloc::Global;
+use std::marker::Model;
+use std::sync::Arc;
+use std::sync::ledger::Ledger;
+
+/// A database, its code, what it calls its fields and blocks, and how it sums packets up. Seen as the database.
+#[derive(Drop)]
+pub struct Engine {
+    alloc: Global,
+    db: Arc<CheckedDb, Global>,
+    code: Arc<Code, Global>,
+    labels: Arc<Labels, Global>,
+    summaries: Arc<Summaries, Global>,
+}
+
+impl Model for Engine {
+    ghost use Rattle.std.specs.Arc.{arc_value};
+    ghost use Rattle.db_model.specs.declared.database.Database.{Database};
+    ghost use Rattle.db_model.specs.contracts.database.Database as contract;
+    ghost use Rattle.engine.specs.Engine.{IsReady};
+
+    ghost Value = { Database };
+
+    ghost coded = { contract.the_row.coded };
+
+    ghost view = { λ e. arc_value e.db };
+
+    ghost invariant = { IsReady };
+}
+
+/// What is made of a database once.
+#[derive(Drop)]
+struct Parts {
+    code: Arc<Code, Global>,
+    labels: Arc<Labels, Global>,
+    summaries: Arc<Summaries, Global>,
+}
+
+/// What is made of this database.
+fn parts_of(alloc: Global, db: &CheckedDb) -> Result<Parts, NoMemory>
+    ensures { IfOk result (λ parts. HasParts parts db.now) }
+{
+    let code = compile(alloc, db)?;
+    let labels = Labels::of(alloc, db)?;
+    let summaries = Summaries::of(alloc, db)?;
+    Ok(Parts {
+        code: Arc::new(alloc, code)?,
+        labels: Arc::new(alloc, labels)?,
+        summaries: Arc::new(alloc, summaries)?,
+    })
+}
+
+/// A database with what is made of it.
+fn engine_of(alloc: Global, db: CheckedDb, parts: Parts) -> Result<Engine, NoMemory>
+    requires { HasParts parts db }
+    ensures { IfOk result (λ e. e ≡ db) }
+{
+    let Parts {
+        code,
+        labels,
+        summaries,
+    } = parts;
+    match Arc::new(alloc, db) {
+        Ok(db) => Ok(Engine {
+            alloc,
+            db,
+            code,
+            labels,
+            summaries,
+        }),
+        Err(refused) => {
+            refused.value.discard();
+            Err(NoMemory)
+        }
+    }
+}
+
+impl Engine {
+    /// The engine of a database.
+    pub fn of(alloc: Global, db: CheckedDb) -> Result<Engine, NoMemory>
+        ensures { IfOk result (λ e. e ≡ db) }
+    {
+        match parts_of(alloc, &db) {
+            Ok(parts) => engine_of(alloc, db, parts),
+            Err(refused) => {
+                db.discard();
+                Err(refused)
+            }
+        }
+    }
+
+    /// One more that shares all of this one. It copies nothing.
+    pub fn share(&self) -> Result<Engine, NoMemory>
+        ensures { IfOk result (λ e. e ≡ self.now) }
+    {
+        let code = Arc::try_clone(&self.code)?;
+        let labels = Arc::try_clone(&self.labels)?;
+        let summaries = Arc::try_clone(&self.summaries)?;
+        Ok(Engine {
+            alloc: self.alloc,
+            db: Arc::try_clone(&self.db)?,
+            code,
+            labels,
+            summaries,
+        })
+    }
+
+    /// Lets the engine go. The last one that shares a database lets that go too, as `CheckedDb::discard`.
+    pub fn discard(self) {
+        let Engine {
+            alloc: _,
+            db,
+            code,
+            labels,
+            summaries,
+        } = self;
+        if let Some(db) = Arc::into_inner(db) {
+            db.discard();
+        }
+        drop(code);
+        drop(labels);
+        drop(summaries);
+    }
+
+    /// Takes no memory.
+    pub fn database(&self) -> &CheckedDb
+        ensures { result.now ≡ self.now }
+    {
+        &self.db
+    }
+
+    /// The session of the database to which nothing was added.
+    pub fn session(&self) -> Result<Session, NoMemory>
+        ensures { IfOk result (λ s. s ≡ new_session self.now) }
+    {
+        Session::new(self.alloc, &self.db)
+    }
+
+    fn put_psml_opening(&self, wanted: bool, text: &mut Vec<u8>) -> Result<(), NoMemory>
+        ensures { OnOk result (text.new.items ≡ text_if wanted (Psml.opening self.now)) }
+    {
+        if wanted {
+            let opening = psml_out::opening(self.alloc, &self.db)?;
+            put(text, wanted, opening.as_slice())
+        } else {
+            text.clear();
+            Ok(())
+        }
+    }
+
+    /// Puts the openings of the wanted outputs into the buffers.
+    pub fn put_openings(&self, wanted: Wanted, texts: &mut Texts) -> Result<(), NoMemory>
+        ensures { OnOk result (HasOpenings wanted texts.new self.now) }
+    {
+        put(&mut texts.pdml, wanted.pdml, pdml_out::opening())?;
+        self.put_psml_opening(wanted.psml, &mut texts.psml)
+    }
+
+    fn put_pdml(
+        &self,
+        wanted: bool,
+        packet: &Packet,
+        tree: &PacketTree,
+        text: &mut Vec<u8>,
+    ) -> Result<(), NoMemory>
+        ensures { OnOk result (text.new.items
+            ≡ text_if wanted (Pdml.packet_text self.now packet.now tree.now)) }
+    {
+        text.clear();
+        if wanted {
+            pdml_out::push_packet_text(text, &self.db, &self.labels, packet, tree)
+        } else {
+            Ok(())
+        }
+    }
+
+    fn put_psml(
+        &self,
+        wanted: bool,
+        packet: &Packet,
+        tree: &PacketTree,
+        text: &mut Vec<u8>,
+    ) -> Result<(), NoMemory>
+        ensures { OnOk result (text.new.items
+            ≡ text_if wanted (Psml.packet_text self.now packet.now tree.now)) }
+    {
+        text.clear();
+        if wanted {
+            psml_out::push_packet_text(text, &self.db, &self.labels, &self.summaries, packet, tree)
+        } else {
+            Ok(())
+        }
+    }
+
+    /// Decodes a packet and puts its wanted texts into the buffers. Counts a step in either case.
+    pub fn decode<A: Answers, L: Ledger>(
+        &self,
+        packet: &Packet,
+        wanted: Wanted,
+        answers: &mut A,
+        steps: &mut Steps<L>,
+        texts: &mut Texts,
+    ) -> Result<(), NoMemory>
+        requires database { A.database answers.old ≡ self.now }
+        requires time { packet.now.stamp < STAMP_END }
+        ensures database { A.database answers.new ≡ self.now }
+        ensures texts { OnOk result (HasTexts wanted texts.new self.now packet.now
+            (dec self.now packet.now (A.content answers.old)).result) }
+        ensures session { OnOk result (A.content answers.new
+            ≡ (dec self.now packet.now (A.content answers.old)).session) }
+        ensures told { OnOk result (A.told answers.new
+            ≡ extended (A.told answers.old) (dec self.now packet.now (A.content answers.old)).log) }
+        ensures steps { steps.new ≡ steps.old + 1 }
+    {
+        let tree = decode(self.alloc, &self.db, &self.code, packet, answers, steps)?;
+        self.put_pdml(wanted.pdml, packet, &tree, &mut texts.pdml)?;
+        self.put_psml(wanted.psml, packet, &tree, &mut texts.psml)
+    }
+}
