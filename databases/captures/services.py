@@ -173,7 +173,10 @@ def mqtt():
     publish = message(0x32, text(b"a/b") + x("0002") + b"21.5" * 40) + message(0x30, text(b"a/c") + b"22")
     yield from flow(50011, 1883, (">", connect), ("<", x("20020000")), (">", message(0x82, x("0001") + text(b"a/b") + b"\1")),
                     ("<", message(0x90, x("000101"))), ("<", publish), (">", x("40020002")), (">", x("c000e000")))
-    yield from flow(50012, 1883, (">", connect5))
+    # version 5, where each message has properties: a subscription has its number, a value says that it is text
+    yield from flow(50012, 1883, (">", connect5), ("<", x("2003000000")), (">", message(0x82, x("0001" "020b01") + text(b"a/#") + b"\1")),
+        ("<", message(0x90, x("0001" "00" "01"))), (">", message(0x32, text(b"a/b") + x("0002" "020101") + b"21.5")),
+        ("<", message(0xB0, x("0003" "00" "00"))))
 
 
 def coap():
