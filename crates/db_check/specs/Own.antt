@@ -3,6 +3,7 @@ use Rattle.std.specs.Prelude.{ℕ, Bool, false, not, ◌||◌, nat_lt, List, [],
 use Rattle.db_cause.specs.declared.cause.Cause.{Cause}
 use Rattle.db_cause.specs.declared.cause.Cause.TheVariants as cause
 use Rattle.db_model.specs.declared.database.Database.{Database}
+use Rattle.db_model.specs.declared.element.Case.{Case}
 use Rattle.db_model.specs.declared.element.Element.TheOpen as layer
 use Rattle.db_model.specs.declared.element.FieldForm.{FieldForm}
 use Rattle.db_model.specs.declared.element.FieldForm.TheVariants as form
@@ -37,6 +38,9 @@ case_fails kind.Names low high = false
 case_fails kind.Types low high = false
 case_fails kind.Numbers low high = nat_lt high low
 case_fails kind.Tables low high = false
+
+abbrev pub case_lines : Kind → Case → Lines
+case_lines k c = at_line c.line (case_fails k c.value c.maxvalue)
 
 module _ (db : Database) (fields blocks : List Text) where
   -- an expression whose type has to be the wanted one

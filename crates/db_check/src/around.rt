@@ -23,7 +23,8 @@ pub struct Around<'a, 'f> {
 impl Around<'_, '_> {
     pub fn has_template(&self, name: &[u8]) -> bool
         requires { IsAround self.now }
-        ensures { result ≡ is_template self.now.scope.database.now self.now.scope.fields.now (block_names self.now.protocol.now) name.now }
+        ensures { result ≡ is_template self.now.scope.database.now self.now.scope.fields.now
+            (block_names self.now.protocol.now) name.now }
     {
         let count = self.scope.database.show_templates.as_slice().len();
         self.shows.place_of(name, count) < count

@@ -29,7 +29,8 @@ fn add_list(
     included: &mut Sequence<usize>,
 ) -> Result<(), NoMemory>
     requires { IsHome home.now }
-    ensures { OnOk result (included.new ≡ included.old ++ numbers (block_names home.now.protocol.now) (includes_in elements.now)) }
+    ensures { OnOk result (included.new
+        ≡ included.old ++ numbers (block_names home.now.protocol.now) (includes_in elements.now)) }
 {
     for element in elements {
         add_element(element, home, included)?;
@@ -44,7 +45,8 @@ fn add_element(
     included: &mut Sequence<usize>,
 ) -> Result<(), NoMemory>
     requires { IsHome home.now }
-    ensures { OnOk result (included.new ≡ included.old ++ numbers (block_names home.now.protocol.now) (includes_of element.now)) }
+    ensures { OnOk result (included.new
+        ≡ included.old ++ numbers (block_names home.now.protocol.now) (includes_of element.now)) }
 {
     match element {
         Element::Block { body, .. } => add_list(body.as_slice(), home, included),
@@ -73,7 +75,8 @@ fn add_element(
 #[cycle(includes)]
 fn add_cases(cases: &[Case], home: &Home, included: &mut Sequence<usize>) -> Result<(), NoMemory>
     requires { IsHome home.now }
-    ensures { OnOk result (included.new ≡ included.old ++ numbers (block_names home.now.protocol.now) (includes_of_cases cases.now)) }
+    ensures { OnOk result (included.new
+        ≡ included.old ++ numbers (block_names home.now.protocol.now) (includes_of_cases cases.now)) }
 {
     for case in cases {
         add_list(case.body.as_slice(), home, included)?;
@@ -88,7 +91,8 @@ fn add_branch(
     included: &mut Sequence<usize>,
 ) -> Result<(), NoMemory>
     requires { IsHome home.now }
-    ensures { OnOk result (included.new ≡ included.old ++ numbers (block_names home.now.protocol.now) (includes_of_other branch.now)) }
+    ensures { OnOk result (included.new
+        ≡ included.old ++ numbers (block_names home.now.protocol.now) (includes_of_other branch.now)) }
 {
     match branch {
         Some(branch) => add_list(branch.body.as_slice(), home, included),
@@ -98,7 +102,8 @@ fn add_branch(
 
 fn included_in(alloc: Global, block: &NamedBlock, home: &Home) -> Result<Sequence<usize>, NoMemory>
     requires { IsHome home.now }
-    ensures { IfOk result (λ included. included ≡ numbers (block_names home.now.protocol.now) (includes_in block.now.body)) }
+    ensures { IfOk result (λ included. included
+        ≡ numbers (block_names home.now.protocol.now) (includes_in block.now.body)) }
 {
     let mut included = Sequence::new(alloc);
     add_list(block.body.as_slice(), home, &mut included)?;
@@ -126,7 +131,8 @@ fn leads_here(
 ) -> Result<bool, NoMemory>
     requires home { IsHome home.now }
     requires order { IsOrdered ordered.now }
-    ensures { IfOk result (λ r. r ≡ leads_here ordered.now.graph.now (block_names home.now.protocol.now) number name.now) }
+    ensures { IfOk result (λ r. r
+        ≡ leads_here ordered.now.graph.now (block_names home.now.protocol.now) number name.now) }
 {
     if home.block_at(name.as_slice()) < number {
         return Ok(false);

@@ -143,7 +143,8 @@ pub fn heights_of(alloc: Global, home: &Home) -> Result<Sequence<u32>, NoMemory>
 /// The height of the lists of the protocol, one after another.
 fn of_run(heights: &[u32], home: &Home) -> u32
     requires { IsHome home.now }
-    ensures { result ≡ height_in (height_at (block_names home.now.protocol.now) heights.now) (elements_of home.now.protocol.now) }
+    ensures { result ≡ height_in (height_at (block_names home.now.protocol.now) heights.now)
+        (elements_of home.now.protocol.now) }
 {
     let before = of_list(parts::before(home.protocol), heights, home);
     let fields = of_list(parts::fields(home.protocol), heights, home);

@@ -74,7 +74,8 @@ impl<'a> Known<'a> {
     ) -> Result<Option<Fault>, NoMemory>
         requires known { IsKnown self.now }
         requires there { slice_get self.now.database.now.protocols number ≡ Some protocol.now }
-        ensures { IfOk result (λ f. f ≡ first (cause_of kind) (protocol_lines self.now.database.now kind protocol.now)) }
+        ensures { IfOk result (λ f. f
+            ≡ first (cause_of kind) (protocol_lines self.now.database.now kind protocol.now)) }
     {
         let fields = self.names.fields_at(number);
         let places = Places::of(alloc, fields)?;
@@ -84,7 +85,9 @@ impl<'a> Known<'a> {
     /// The least fault of this kind in all protocols.
     pub fn in_protocols(&self, alloc: Global, kind: Kind) -> Result<Option<Fault>, NoMemory>
         requires { IsKnown self.now }
-        ensures { IfOk result (λ f. f ≡ first (cause_of kind) (over (protocol_lines self.now.database.now kind) self.now.database.now.protocols)) }
+        ensures { IfOk result (λ f. f
+            ≡ first (cause_of kind) (over
+            (protocol_lines self.now.database.now kind) self.now.database.now.protocols)) }
     {
         self.in_each(alloc, kind, self.database.protocols.as_slice())
     }
@@ -97,7 +100,8 @@ impl<'a> Known<'a> {
     ) -> Result<Option<Fault>, NoMemory>
         requires known { IsKnown self.now }
         requires all { protocols.now ≡ self.now.database.now.protocols }
-        ensures { IfOk result (λ f. f ≡ first (cause_of kind) (over (protocol_lines self.now.database.now kind) protocols.now)) }
+        ensures { IfOk result (λ f. f
+            ≡ first (cause_of kind) (over (protocol_lines self.now.database.now kind) protocols.now)) }
     {
         let mut found = None;
         for (number, protocol) in protocols.iter().enumerate() {

@@ -3,15 +3,14 @@
 ghost use Rattle.std.specs.Prelude.{◌≡◌, ◌++◌, Some, option_map, slice_get};
 ghost use Rattle.db_model.specs.Lines.{over};
 ghost use Rattle.db_model.specs.Lines;
-ghost use Rattle.db_model.specs.NameFaults.{block_names};
 ghost use Rattle.db_model.specs.TypeFaults;
 ghost use Rattle.db_model.specs.TypeFaults.{column_wants};
 ghost use Rattle.db_model.specs.Typing.{is_among};
 ghost use Rattle.db_model.specs.Special.{special_names};
 ghost use Rattle.db_model.specs.declared.database.ColumnDecl.{ColumnDecl};
-ghost use Rattle.db_model.specs.declared.element.Case.{Case};
 ghost use Rattle.db_model.specs.declared.value.Ty.TheVariants.{Num};
-ghost use Rattle.db_check.specs.Around.{IsAround, own_in};
+ghost use Rattle.db_check.specs.Around.{IsAround};
+ghost use Rattle.db_check.specs.Around as there;
 ghost use Rattle.db_check.specs.First.{first};
 ghost use Rattle.db_check.specs.Layer.{own_at};
 ghost use Rattle.db_check.specs.Own;
@@ -51,7 +50,7 @@ fn isnt_wanted(wanted: Option<Ty>, ty: Result<Ty, TypeFault>) -> bool
 /// Whether an expression has a fault of this kind, where its type has to be the wanted one.
 fn fails(kind: Kind, wanted: Option<Ty>, e: &Expr, around: &Around) -> bool
     requires { IsAround around.now }
-    ensures { result ≡ Own.fails around.now.scope.database.now around.now.scope.fields.now (block_names around.now.protocol.now) kind wanted e.now }
+    ensures { result ≡ there.fails around.now kind wanted e.now }
 {
     match kind {
         Kind::Names => has_undeclared(e, &around.scope),
@@ -63,7 +62,7 @@ fn fails(kind: Kind, wanted: Option<Ty>, e: &Expr, around: &Around) -> bool
 
 fn form_fails(kind: Kind, form: &FieldForm, around: &Around) -> bool
     requires { IsAround around.now }
-    ensures { result ≡ Own.form_fails around.now.scope.database.now around.now.scope.fields.now (block_names around.now.protocol.now) kind form.now }
+    ensures { result ≡ there.form_fails around.now kind form.now }
 {
     match form {
         FieldForm::Variable { expr } => fails(kind, Some(Ty::Num), expr, around),
@@ -73,7 +72,7 @@ fn form_fails(kind: Kind, form: &FieldForm, around: &Around) -> bool
 
 fn lacks_template(show: &Option<Name>, around: &Around) -> bool
     requires { IsAround around.now }
-    ensures { result ≡ Own.lacks_template around.now.scope.database.now around.now.scope.fields.now (block_names around.now.protocol.now) show.now }
+    ensures { result ≡ there.lacks_template around.now show.now }
 {
     match show {
         None => false,
@@ -83,7 +82,7 @@ fn lacks_template(show: &Option<Name>, around: &Around) -> bool
 
 fn field_fails(kind: Kind, form: &FieldForm, show: &Option<Name>, around: &Around) -> bool
     requires { IsAround around.now }
-    ensures { result ≡ Own.field_fails around.now.scope.database.now around.now.scope.fields.now (block_names around.now.protocol.now) kind form.now show.now }
+    ensures { result ≡ there.field_fails around.now kind form.now show.now }
 {
     match kind {
         Kind::Names => form_fails(kind, form, around) || lacks_template(show, around),
@@ -94,7 +93,7 @@ fn field_fails(kind: Kind, form: &FieldForm, show: &Option<Name>, around: &Aroun
 
 fn include_fails(kind: Kind, name: &Name, around: &Around) -> bool
     requires { IsAround around.now }
-    ensures { result ≡ Own.include_fails around.now.scope.database.now around.now.scope.fields.now (block_names around.now.protocol.now) kind name.now }
+    ensures { result ≡ there.include_fails around.now kind name.now }
 {
     match kind {
         Kind::Names => !around.has_block(name.as_slice()),
@@ -110,7 +109,7 @@ fn is_special(name: &[u8]) -> bool
 
 fn assign_fails(kind: Kind, name: &Name, e: &Expr, around: &Around) -> bool
     requires { IsAround around.now }
-    ensures { result ≡ Own.assign_fails around.now.scope.database.now around.now.scope.fields.now (block_names around.now.protocol.now) kind name.now e.now }
+    ensures { result ≡ there.assign_fails around.now kind name.now e.now }
 {
     let name_text = name.as_slice();
     match kind {
@@ -133,33 +132,45 @@ struct Times {
     hit: Option<u32>,
 }
 
-fn update_fails(
-    kind: Kind,
-    table: &Name,
+/// An update, as far as it may have faults of its own.
+#[derive(Clone, Copy)]
+struct Update<'a> {
+    table: &'a Name,
     times: Times,
-    keys: &[UpdateKey],
-    row: &[UpdateValue],
-    around: &Around,
-) -> bool
+    keys: &'a [UpdateKey],
+    row: &'a [UpdateValue],
+}
+
+fn update_fails(kind: Kind, update: &Update, around: &Around) -> bool
     requires { IsAround around.now }
-    ensures { result ≡ Own.update_fails around.now.scope.database.now around.now.scope.fields.now (block_names around.now.protocol.now) kind table.now times.validity times.keep times.hit keys.now row.now }
+    ensures { result ≡ there.update_fails around.now kind update.now }
 {
     match kind {
-        Kind::Names => !around.scope.has_table(table.as_slice()),
+        Kind::Names => !around.scope.has_table(update.table.as_slice()),
         Kind::Types => false,
-        Kind::Numbers => is_zero(times.keep) || is_zero(times.hit),
+        Kind::Numbers => is_zero(update.times.keep) || is_zero(update.times.hit),
         Kind::Tables => {
             let scope = &around.scope;
-            let at = scope.names.table_at(scope.database, table.as_slice());
+            let at = scope
+                .names
+                .table_at(scope.database, update.table.as_slice());
             let declared = scope.database.tables.get(at);
-            update_misses(declared, times.validity, times.keep, times.hit, keys, row)
+            let times = update.times;
+            update_misses(
+                declared,
+                times.validity,
+                times.keep,
+                times.hit,
+                update.keys,
+                update.row,
+            )
         }
     }
 }
 
 fn of_keys(kind: Kind, keys: &[UpdateKey], around: &Around) -> Option<Fault>
     requires { IsAround around.now }
-    ensures { result ≡ first (cause_of kind) (over (Own.key_lines around.now.scope.database.now around.now.scope.fields.now (block_names around.now.protocol.now) kind) keys.now) }
+    ensures { result ≡ first (cause_of kind) (over (there.key_lines around.now kind) keys.now) }
 {
     let mut found = None;
     for key in keys {
@@ -182,7 +193,8 @@ fn wanted_at(columns: &[ColumnDecl], place: usize) -> Option<Ty>
 /// The values of a row, each of which has to have the type of its column.
 fn of_row(kind: Kind, columns: &[ColumnDecl], row: &[UpdateValue], around: &Around) -> Option<Fault>
     requires { IsAround around.now }
-    ensures { result ≡ first (cause_of kind) (over (Own.value_lines around.now.scope.database.now around.now.scope.fields.now (block_names around.now.protocol.now) kind) (column_wants columns.now row.now)) }
+    ensures { result ≡ first (cause_of kind) (over (there.value_lines around.now kind)
+        (column_wants columns.now row.now)) }
 {
     let mut found = None;
     for (i, value) in row.iter().enumerate() {
@@ -202,7 +214,7 @@ fn case_fails(kind: Kind, case: &Case) -> bool
 }
 
 fn of_cases(kind: Kind, cases: &[Case]) -> Option<Fault>
-    ensures { result ≡ first (cause_of kind) (over (λ (c : Case). Lines.at_line c.line (Own.case_fails kind c.value c.maxvalue)) cases.now) }
+    ensures { result ≡ first (cause_of kind) (over (Own.case_lines kind) cases.now) }
 {
     let mut found = None;
     for case in cases {
@@ -213,47 +225,37 @@ fn of_cases(kind: Kind, cases: &[Case]) -> Option<Fault>
 }
 
 #[tactic(auto, using(crate::proofs::FirstFault::first_append))]
-fn of_parts(
-    kind: Kind,
-    table: &Name,
-    keys: &[UpdateKey],
-    row: &[UpdateValue],
-    around: &Around,
-) -> Option<Fault>
+fn of_parts(kind: Kind, update: &Update, around: &Around) -> Option<Fault>
     requires { IsAround around.now }
-    ensures { result ≡ first (cause_of kind) (Own.update_lines around.now.scope.database.now around.now.scope.fields.now (block_names around.now.protocol.now) kind table.now keys.now row.now) }
+    ensures { result ≡ first (cause_of kind) (there.update_lines around.now kind update.now) }
 {
     let scope = &around.scope;
-    let at = scope.names.table_at(scope.database, table.as_slice());
+    let at = scope
+        .names
+        .table_at(scope.database, update.table.as_slice());
     let columns = columns_of(scope.database.tables.get(at));
     Fault::earlier(
-        of_keys(kind, keys, around),
-        of_row(kind, columns, row, around),
+        of_keys(kind, update.keys, around),
+        of_row(kind, columns, update.row, around),
     )
 }
 
 #[tactic(auto, using(crate::proofs::FirstFault::first_append))]
-fn of_update(
-    kind: Kind,
-    line: u32,
-    table: &Name,
-    times: Times,
-    keys: &[UpdateKey],
-    row: &[UpdateValue],
-    around: &Around,
-) -> Option<Fault>
+fn of_update(kind: Kind, line: u32, update: &Update, around: &Around) -> Option<Fault>
     requires { IsAround around.now }
-    ensures { result ≡ first (cause_of kind) (Lines.at_line line (Own.update_fails around.now.scope.database.now around.now.scope.fields.now (block_names around.now.protocol.now) kind table.now times.validity times.keep times.hit keys.now row.now) ++ Own.update_lines around.now.scope.database.now around.now.scope.fields.now (block_names around.now.protocol.now) kind table.now keys.now row.now) }
+    ensures { result ≡ first (cause_of kind)
+        (Lines.at_line line (there.update_fails around.now kind update.now)
+        ++ there.update_lines around.now kind update.now) }
 {
-    let wrong = update_fails(kind, table, times, keys, row, around);
+    let wrong = update_fails(kind, update, around);
     let own = at_line(line, kind.cause(), wrong);
-    Fault::earlier(own, of_parts(kind, table, keys, row, around))
+    Fault::earlier(own, of_parts(kind, update, around))
 }
 
 /// The least fault of this kind of an element itself.
 pub fn own(kind: Kind, element: &Element, around: &Around) -> Option<Fault>
     requires { IsAround around.now }
-    ensures { result ≡ first (cause_of kind) (own_at (own_in around.now kind) element.now) }
+    ensures { result ≡ first (cause_of kind) (own_at (there.own_in around.now kind) element.now) }
 {
     match element {
         Element::Field {
@@ -293,8 +295,13 @@ pub fn own(kind: Kind, element: &Element, around: &Around) -> Option<Fault>
                 keep: *keep,
                 hit: *hit,
             };
-            let keys = keys.as_slice();
-            of_update(kind, *line, table, times, keys, row.as_slice(), around)
+            let update = Update {
+                table,
+                times,
+                keys: keys.as_slice(),
+                row: row.as_slice(),
+            };
+            of_update(kind, *line, &update, around)
         }
         Element::NextProto { line, proto } => {
             let wrong = fails(kind, Some(Ty::Proto), proto, around);
@@ -307,7 +314,7 @@ pub fn own(kind: Kind, element: &Element, around: &Around) -> Option<Fault>
 /// An expression that has to give a number.
 fn of_number(kind: Kind, line: u32, e: &Expr, around: &Around) -> Option<Fault>
     requires { IsAround around.now }
-    ensures { result ≡ first (cause_of kind) (Lines.at_line line (Own.fails around.now.scope.database.now around.now.scope.fields.now (block_names around.now.protocol.now) kind (Some Num) e.now)) }
+    ensures { result ≡ first (cause_of kind) (Lines.at_line line (there.fails around.now kind (Some Num) e.now)) }
 {
     at_line(line, kind.cause(), fails(kind, Some(Ty::Num), e, around))
 }

@@ -38,7 +38,9 @@ pub fn repeated<B: Declaration, T: Located>(
     taken: &[B],
     declared: &[T],
 ) -> Result<Option<Fault>, NoMemory>
-    ensures { IfOk result (λ f. f ≡ first cause.DeclaredAgain (repeated (map B.named taken.now) (map (λ d. (T.named d, T.at d)) declared.now))) }
+    ensures { IfOk result (λ f. f
+        ≡ first cause.DeclaredAgain (repeated (map B.named taken.now) (map
+        (λ d. (T.named d, T.at d)) declared.now))) }
 {
     let places = Places::of(alloc, declared)?;
     let mut found = None;
@@ -87,20 +89,24 @@ const SPECIAL_NAMES: [Reserved; 5] = [
 ];
 
 fn of_protocols(alloc: Global, protocols: &[Protocol]) -> Result<Option<Fault>, NoMemory>
-    ensures { IfOk result (λ f. f ≡ first cause.DeclaredAgain (repeated (payload_name ∷ []) (map (λ d. (d.name, d.line)) protocols.now))) }
+    ensures { IfOk result (λ f. f
+        ≡ first cause.DeclaredAgain (repeated (payload_name ∷ []) (map
+        (λ d. (d.name, d.line)) protocols.now))) }
 {
     repeated(alloc, &PAYLOAD_NAME, protocols)
 }
 
 fn of_variables(alloc: Global, variables: &[VarDecl]) -> Result<Option<Fault>, NoMemory>
-    ensures { IfOk result (λ f. f ≡ first cause.DeclaredAgain (repeated special_names (map (λ d. (d.name, d.line)) variables.now))) }
+    ensures { IfOk result (λ f. f
+        ≡ first cause.DeclaredAgain (repeated special_names (map (λ d. (d.name, d.line)) variables.now))) }
 {
     repeated(alloc, &SPECIAL_NAMES, variables)
 }
 
 /// Declarations of one space in which each name may be declared.
 fn of_all<T: Located>(alloc: Global, declared: &[T]) -> Result<Option<Fault>, NoMemory>
-    ensures { IfOk result (λ f. f ≡ first cause.DeclaredAgain (repeated [] (map (λ d. (T.named d, T.at d)) declared.now))) }
+    ensures { IfOk result (λ f. f
+        ≡ first cause.DeclaredAgain (repeated [] (map (λ d. (T.named d, T.at d)) declared.now))) }
 {
     repeated(alloc, &NO_NAMES, declared)
 }

@@ -57,7 +57,8 @@ impl Search {
 
     /// The turn of the number at a place of the queue.
     fn turn(&mut self, graph: &Graph, place: usize) -> Result<(), NoMemory>
-        ensures { OnOk result (self.new ≡ Graph.visit (Graph.targets_at graph.now (slice_get self.old.queue place)) self.old) }
+        ensures { OnOk result (self.new
+            ≡ Graph.visit (Graph.targets_at graph.now (slice_get self.old.queue place)) self.old) }
     {
         let number = match self.queue.get(place) {
             None => return Ok(()),

@@ -4,6 +4,7 @@ pub mod Forms
 pub mod Laws
 pub mod Meaning
 pub mod Parsed
+pub mod Pieces
 pub mod Rules
 pub mod Values
 pub mod Whole

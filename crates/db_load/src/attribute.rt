@@ -166,7 +166,8 @@ pub fn has_malformed(
     rules: &[Rule],
     attributes: &[Attribute],
 ) -> Result<bool, NoMemory>
-    ensures { IfOk result (λ r. r ≡ Faults.has_malformed parsed (option_copied decided.entry) rules.now attributes.now) }
+    ensures { IfOk result (λ r. r
+        ≡ Faults.has_malformed parsed (option_copied decided.entry) rules.now attributes.now) }
 {
     for attribute in attributes {
         if breaks(alloc, parsed, decided, rules, attribute)? {

@@ -1,11 +1,10 @@
 //! Elements from the elements of a text. In each the expression is read last, since whatever fails behind it would
 //! have to let it go again.
 
-ghost use Rattle.std.specs.Prelude.{◌≡◌, ◌++◌, ◌∷◌, [], map, unwrap_or, IfOk, OnOk};
+ghost use Rattle.std.specs.Prelude.{◌≡◌, ◌++◌, ◌∷◌, [], map, IfOk, OnOk};
 ghost use Rattle.db_text.specs.declared.node.Node.{Node, out-Node};
 ghost use Rattle.db_load.specs.Meaning;
-ghost use Rattle.db_load.specs.Values;
-ghost use Rattle.db_load.specs.Whole;
+ghost use Rattle.db_load.specs.Pieces;
 ghost use Rattle.db_load.specs.declared.kind.Kind.TheVariants as kind;
 ghost use Rattle.db_load.specs.declared.word.Word.TheVariants as word;
 
@@ -233,7 +232,7 @@ fn cases(alloc: Global, of: ListKind, nodes: &[Node]) -> Result<Items<Case>, NoM
 
 /// A case of what it says and what stands in it.
 fn case_of(node: &Node, body: Items<Element>) -> Case
-    ensures { result ≡ record { line = (out-Node node.now).line; value = Values.number_by (Whole.of node.now word.Value); maxvalue = unwrap_or (Values.optional_number_by (Whole.of node.now word.MaxValue)) (Values.number_by (Whole.of node.now word.Value)); body = body } }
+    ensures { result ≡ Pieces.case_by node.now body }
 {
     let value = number_by(node, Word::Value);
     let maxvalue = optional_number_by(node, Word::MaxValue).unwrap_or(value);
@@ -249,7 +248,8 @@ fn case_of(node: &Node, body: Items<Element>) -> Case
 #[cycle(conversion)]
 #[tactic(auto, using(crate::proofs::Means::meant_name, crate::proofs::Means::meant_line, crate::proofs::Means::meant_attributes))]
 fn case(alloc: Global, of: ListKind, node: &Node) -> Result<Option<Case>, NoMemory>
-    ensures { IfOk result (λ c. Meaning.items_of c ≡ Meaning.named word.Case (Meaning.case_by of) (Meaning.meant node.now ∷ [])) }
+    ensures { IfOk result (λ c. Meaning.items_of c
+        ≡ Meaning.named word.Case (Meaning.case_by of) (Meaning.meant node.now ∷ [])) }
 {
     if node.name.as_slice() != Word::Case.spelled() {
         return Ok(None);

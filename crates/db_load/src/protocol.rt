@@ -2,10 +2,8 @@
 //! each way out behind it lets go at once.
 
 ghost use Rattle.std.specs.Prelude.{◌≡◌, IfOk};
-ghost use Rattle.db_load.specs.Values.{name_by, optional_name_by, text_by};
+ghost use Rattle.db_load.specs.Pieces;
 ghost use Rattle.db_load.specs.Whole;
-ghost use Rattle.db_load.specs.declared.kind.Kind.TheVariants as kind;
-ghost use Rattle.db_load.specs.declared.word.Word.TheVariants as word;
 
 use crate::element::body;
 use crate::from_node::{FromNode, each_of, one_of};
@@ -88,7 +86,7 @@ struct Parts {
 }
 
 fn parts_in(alloc: Global, nodes: &[Node]) -> Result<Parts, NoMemory>
-    ensures { IfOk result (λ p. p ≡ record { execute_code = Whole.one_of word.ExecuteCode Whole.execute_code nodes.now; format = Whole.one_of word.Format Whole.format nodes.now; encapsulation = Whole.one_of word.Encapsulation (Whole.list_of kind.Encapsulation) nodes.now }) }
+    ensures { IfOk result (λ p. p ≡ Pieces.parts_in nodes.now) }
 {
     Ok(Parts {
         encapsulation: one_list(alloc, Word::Encapsulation, Kind::Encapsulation, nodes)?,
@@ -106,7 +104,7 @@ struct Heading {
 }
 
 fn heading_of(alloc: Global, node: &Node) -> Result<Heading, NoMemory>
-    ensures { IfOk result (λ h. h ≡ record { name = name_by (Whole.of node.now word.Name); longname = text_by (Whole.of node.now word.LongName); showsum = optional_name_by (Whole.of node.now word.ShowSum) }) }
+    ensures { IfOk result (λ h. h ≡ Pieces.heading_of node.now) }
 {
     Ok(Heading {
         name: name_by(alloc, node, Word::Name)?,
@@ -116,7 +114,7 @@ fn heading_of(alloc: Global, node: &Node) -> Result<Heading, NoMemory>
 }
 
 fn protocol_of(line: u32, heading: Heading, parts: Parts) -> Protocol
-    ensures { result ≡ record { line = line; name = heading.name; longname = heading.longname; showsum = heading.showsum; execute_code = parts.execute_code; format = parts.format; encapsulation = parts.encapsulation } }
+    ensures { result ≡ Pieces.protocol_by line heading parts }
 {
     let Heading {
         name,
@@ -159,7 +157,7 @@ struct Titles {
 }
 
 fn titles_of(alloc: Global, node: &Node) -> Result<Titles, NoMemory>
-    ensures { IfOk result (λ t. t ≡ record { name = text_by (Whole.of node.now word.Name); version = text_by (Whole.of node.now word.Version); creator = text_by (Whole.of node.now word.Creator); date = text_by (Whole.of node.now word.Date) }) }
+    ensures { IfOk result (λ t. t ≡ Pieces.titles_of node.now) }
 {
     Ok(Titles {
         name: text_by(alloc, node, Word::Name)?,
@@ -180,7 +178,7 @@ struct Declarations {
 }
 
 fn declared_in(alloc: Global, nodes: &[Node]) -> Result<Declarations, NoMemory>
-    ensures { IfOk result (λ d. d ≡ record { variables = Whole.each_of word.Variable Whole.variable nodes.now; tables = Whole.each_of word.LookupTable Whole.table nodes.now; show_templates = Whole.each_of word.ShowTemplate Whole.show_template nodes.now; sum_struct = Whole.one_of word.ShowSumStruct Whole.sum_struct nodes.now; sum_templates = Whole.each_of word.ShowSumTemplate Whole.sum_template nodes.now }) }
+    ensures { IfOk result (λ d. d ≡ Pieces.declared_in nodes.now) }
 {
     Ok(Declarations {
         variables: each_of(alloc, Word::Variable, nodes)?,
@@ -197,7 +195,7 @@ fn whole_of(
     declarations: Declarations,
     protocols: Items<Protocol>,
 ) -> Database
-    ensures { result ≡ record { line = line; name = titles.name; version = titles.version; creator = titles.creator; date = titles.date; variables = declarations.variables; tables = declarations.tables; show_templates = declarations.show_templates; sum_struct = declarations.sum_struct; sum_templates = declarations.sum_templates; protocols = protocols } }
+    ensures { result ≡ Pieces.whole_by line titles declarations protocols }
 {
     let Titles {
         name,

@@ -39,7 +39,8 @@ fn is_astray(kind: Kind) -> bool
 /// The least fault of the attributes of an element.
 #[tactic(auto, using(db_model::proofs::LeastFault::least_append), unfolding(crate::specs::Faults::of_attributes))]
 fn of_attributes(alloc: Global, kind: Kind, node: &Node) -> Result<Option<Fault>, NoMemory>
-    ensures { IfOk result (λ f. f ≡ least (Faults.of_attributes kind (out-Node node.now).line (out-Node node.now).attributes)) }
+    ensures { IfOk result (λ f. f
+        ≡ least (Faults.of_attributes kind (out-Node node.now).line (out-Node node.now).attributes)) }
 {
     let attributes = node.attributes.as_slice();
     let rules = rules(kind);
@@ -66,7 +67,8 @@ fn of_attributes(alloc: Global, kind: Kind, node: &Node) -> Result<Option<Fault>
 /// The least fault of what stands in an element and of where it stands.
 #[tactic(auto, using(db_model::proofs::LeastFault::least_append), unfolding(crate::specs::Faults::of_place))]
 fn of_place(kind: Kind, left: u32, node: &Node) -> Option<Fault>
-    ensures { result ≡ least (Faults.of_place kind left (out-Node node.now).line (Faults.names_in (out-Node node.now).children)) }
+    ensures { result ≡ least (Faults.of_place kind left (out-Node node.now).line (Faults.names_in
+        (out-Node node.now).children)) }
 {
     let line = node.line;
     let inside = has_wrong_children(kind, node.children.as_slice());

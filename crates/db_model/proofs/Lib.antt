@@ -7,3 +7,4 @@ pub mod Layers
 pub mod FieldNames
 pub mod LeastFault
 pub mod Placed
+pub mod LastValue

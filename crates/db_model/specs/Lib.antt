@@ -11,6 +11,7 @@ pub mod Fitting
 pub mod Folds
 pub mod Forms
 pub mod Kept
+pub mod LastValue
 pub mod LeastFault
 pub mod Lines
 pub mod Name

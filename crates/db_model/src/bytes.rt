@@ -1,20 +1,26 @@
 ghost use Rattle.std.specs.Prelude.{◌≡◌, ◌≤◌, length, IfOk, vec_len};
 
 use crate::NoMemory;
-use arrayvec::ArrayVec;
 use std::alloc::{AllocError, Global};
 use std::marker::Model;
 
 /// The most bytes that a `Bytes` holds: as many as a record of a capture may have.
 pub const MOST_BYTES: usize = 262_144;
 
-/// The most bytes that a `Bytes` keeps in place.
-const MOST_SHORT: usize = 24;
+/// The most bytes that a `Bytes` keeps in the value itself, for which it takes no memory.
+pub const MOST_SHORT: usize = 24;
+
+/// As many bytes of these as `len` says, from the first on.
+#[derive(Clone, Copy)]
+struct Few {
+    bytes: [u8; MOST_SHORT],
+    len: u8,
+}
 
 /// Few bytes lie in the value itself, more of them in memory of their own.
 #[derive(Drop)]
 enum Held {
-    Short(ArrayVec<u8, MOST_SHORT>),
+    Short(Few),
     Long(Vec<u8>),
 }
 
@@ -25,14 +31,14 @@ pub struct Bytes {
 }
 
 impl Model for Bytes {
-    ghost use Rattle.std.specs.Prelude.{List, ℕ, ◌≤◌, length};
-    ghost use Rattle.db_model.specs.Bytes.{bytes_held};
+    ghost use Rattle.std.specs.Prelude.{List, ℕ};
+    ghost use Rattle.db_model.specs.Bytes.{bytes_held, IsHeld};
 
     ghost Value = { List ℕ };
 
     ghost view = { λ b. bytes_held b.held };
 
-    ghost invariant = { λ b. length (bytes_held b.held) ≤ 262144 };
+    ghost invariant = { λ b. IsHeld b.held };
 }
 
 impl Clone for Bytes {
@@ -40,9 +46,11 @@ impl Clone for Bytes {
 
     fn clone(&self) -> Result<Bytes, AllocError> {
         match &self.held {
-            Held::Short(bytes) => Ok(in_place(bytes.as_slice())),
+            Held::Short(few) => Ok(Bytes {
+                held: Held::Short(*few),
+            }),
             Held::Long(bytes) => Ok(Bytes {
-                held: Held::Long(bytes.clone()?),
+                held: Held::Long(Vec::from_slice(*bytes.allocator(), bytes.as_slice())?),
             }),
         }
     }
@@ -62,26 +70,29 @@ impl PartialEq for Bytes {
     }
 }
 
-fn in_place(bytes: &[u8]) -> Bytes
-    requires { length bytes.now ≤ MOST_SHORT }
-    ensures { result ≡ bytes.now }
-{
-    let mut short = ArrayVec::new();
-    // They fit, since there are at most `MOST_SHORT`.
-    let _ = short.try_extend_from_slice(bytes);
-    Bytes {
-        held: Held::Short(short),
-    }
-}
-
 impl Bytes {
+    /// Takes no memory.
+    pub fn short(bytes: &[u8]) -> Bytes
+        requires { length bytes.now ≤ MOST_SHORT }
+        ensures { result ≡ bytes.now }
+    {
+        let mut all = [0; MOST_SHORT];
+        all[..bytes.len()].copy_from_slice(bytes);
+        Bytes {
+            held: Held::Short(Few {
+                bytes: all,
+                len: bytes.len() as u8,
+            }),
+        }
+    }
+
     /// Takes no memory.
     pub fn from_vec(bytes: Vec<u8>) -> Bytes
         requires { vec_len bytes ≤ MOST_BYTES }
         ensures { result ≡ bytes.items }
     {
         if bytes.len() <= MOST_SHORT {
-            in_place(bytes.as_slice())
+            Bytes::short(bytes.as_slice())
         } else {
             Bytes {
                 held: Held::Long(bytes),
@@ -95,7 +106,7 @@ impl Bytes {
         ensures { IfOk result (λ b. b ≡ bytes.now) }
     {
         if bytes.len() <= MOST_SHORT {
-            Ok(in_place(bytes))
+            Ok(Bytes::short(bytes))
         } else {
             Ok(Bytes {
                 held: Held::Long(Vec::from_slice(alloc, bytes)?),
@@ -108,7 +119,7 @@ impl Bytes {
         ensures bound { length self.now ≤ MOST_BYTES }
     {
         match &self.held {
-            Held::Short(bytes) => bytes.as_slice(),
+            Held::Short(few) => &few.bytes[..few.len as usize],
             Held::Long(bytes) => bytes.as_slice(),
         }
     }

@@ -2,7 +2,7 @@ ghost use Rattle.std.specs.Prelude.{◌≡◌, ◌≤◌, length, slice_get, IfO
 ghost use Rattle.std.specs.Option.{option_copied};
 ghost use Rattle.db_model.specs.Bare.{bare};
 ghost use Rattle.db_model.specs.NameIndex.{IsIndex, block_number_at};
-ghost use Rattle.db_model.specs.Names.{protocol_at, variable_at, table_at, column_at};
+ghost use Rattle.db_model.specs.Names.{protocol_at, startproto, variable_at, table_at, column_at};
 ghost use Rattle.db_model.specs.Numbering.{names_of_protocol};
 ghost use Rattle.db_model.specs.Objection.{IsChecked, objection};
 ghost use Rattle.db_model.specs.Shape.{is_shaped};
@@ -20,6 +20,8 @@ use std::marker::Model;
 pub struct CheckedDb {
     database: Database,
     names: NameIndex,
+    /// The number of the protocol with which each packet begins.
+    first: u16,
 }
 
 impl Model for CheckedDb {
@@ -34,8 +36,19 @@ impl Model for CheckedDb {
     ghost view = { λ c. c.database };
 
     ghost use Rattle.db_model.specs.NameIndex.{IsIndex};
+    ghost use Rattle.std.specs.Prelude.{◌≡◌};
+    ghost use Rattle.db_model.specs.Names.{protocol_at, startproto};
 
-    ghost invariant = { λ c. IsChecked c.database × IsIndex c.database c.names };
+    ghost invariant = { λ c. IsChecked c.database × IsIndex c.database c.names × (c.first ≡ protocol_at c.database startproto) };
+}
+
+/// The number of the protocol `startproto`.
+fn first_protocol(database: &Database, names: &NameIndex) -> u16
+    requires accepted { objection database.now ≡ None }
+    requires names { IsIndex database.now names.now }
+    ensures { result ≡ protocol_at database.now startproto }
+{
+    names.protocol_at(database, b"startproto") as u16
 }
 
 impl CheckedDb {
@@ -46,7 +59,12 @@ impl CheckedDb {
         requires names { IsIndex database names }
         ensures { result ≡ database }
     {
-        CheckedDb { database, names }
+        let first = first_protocol(&database, &names);
+        CheckedDb {
+            database,
+            names,
+            first,
+        }
     }
 
     /// The smallest database: one protocol `startproto` without parts, whose number is 0.
@@ -105,7 +123,15 @@ impl CheckedDb {
         self.names.protocol_at(&self.database, name)
     }
 
-    /// The same for variables. The name stands without the `$`.
+    /// The number of the protocol `startproto`, with which each packet begins.
+    pub fn first_protocol(&self) -> u16
+        ensures { result ≡ protocol_at self.now startproto }
+    {
+        self.first
+    }
+
+    /// The number of the variable of this name, or how many there are where none has it. The name stands without the
+    /// `$`.
     pub fn variable_at(&self, name: &[u8]) -> usize
         ensures place { result ≡ variable_at self.now name.now }
         ensures within { result ≤ length self.now.variables }

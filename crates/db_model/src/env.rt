@@ -2,16 +2,13 @@ ghost use Rattle.std.specs.Prelude.{◌≡◌, ◌≤◌, length, map, None, IfO
 ghost use Rattle.db_model.specs.Decoding.{literal, start_env};
 
 use crate::{
-    Bytes, CheckedDb, Database, Literal, MOST_PROTOCOLS, MOST_QUESTIONS, MOST_TURNS, NoMemory,
-    Packet, Reason, Row, Sequence, Value,
+    CheckedDb, Database, FieldValues, Literal, MOST_PROTOCOLS, MOST_QUESTIONS, MOST_TURNS,
+    NoMemory, Packet, Reason, Row, Sequence, Value,
 };
 use std::alloc::Global;
 
 /// The row last hit of each table, in the order of declaration.
 pub type HitRows = Sequence<Option<Row>>;
-
-/// The decoded fields of the protocol in order: the number of each and its value.
-pub type FieldValues = Sequence<(u32, Bytes)>;
 
 /// The state of decoding that expressions see. Positions are in bytes from the packet's first byte.
 #[derive(Drop)]

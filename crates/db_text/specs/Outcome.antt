@@ -39,6 +39,14 @@ unfoldable pub built : ℕ → Mode → Notes → Parts → List ℕ → Option 
 built line m n q [] = q.top
 built line m n q (b ∷ bs) = after_part n q (λ m' n' q'. built (next_line line b) m' n' q' bs) (decide m n line b)
 
+-- on any line and with any notes, the rest of the bytes has their outcome
+abbrev pub KeepsOutcome : Mode → List ℕ → List ℕ → Type 0
+KeepsOutcome m bs rest = (line : ℕ) (n : Notes) → outcome line m n rest ≡ outcome line m n bs
+
+-- on any line and with any notes, the later parts and the rest of the bytes make the same element
+abbrev pub KeepsElement : Mode → Parts → List ℕ → Parts → List ℕ → Type 0
+KeepsElement m q bs later rest = (line : ℕ) (n : Notes) → built line m n later rest ≡ built line m n q bs
+
 abbrev pub text_outcome : List ℕ → Answer
 text_outcome bytes = outcome 1 mode.Start no_notes bytes
 

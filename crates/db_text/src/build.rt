@@ -1,5 +1,4 @@
-ghost use Rattle.std.specs.Prelude.{◌≡◌, ◌≤◌, ℕ, length, IfOk};
-ghost use Rattle.db_text.specs.declared.notes.Notes.{Notes};
+ghost use Rattle.std.specs.Prelude.{◌≡◌, ◌≤◌, length, IfOk};
 ghost use Rattle.db_text.specs.Outcome;
 
 use crate::decide::decide;
@@ -40,7 +39,7 @@ fn behind_added<'a>(
     parts: &mut Parts,
     text: &'a [u8],
 ) -> Result<&'a [u8], NoMemory>
-    ensures same { IfOk result (λ behind. (line : ℕ) (n : Notes) → Outcome.built line mode n parts.new behind.now ≡ Outcome.built line mode n parts.old text.now) }
+    ensures same { IfOk result (λ behind. Outcome.KeepsElement mode parts.old text.now parts.new behind.now) }
     ensures within { IfOk result (λ behind. length behind.now ≤ length text.now) }
 {
     let (bytes, behind) = text.split_at(staying(mode, text));

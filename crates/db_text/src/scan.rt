@@ -1,5 +1,4 @@
-ghost use Rattle.std.specs.Prelude.{◌≡◌, ◌≤◌, ◌<◌, ◌+◌, ℕ, length};
-ghost use Rattle.db_text.specs.declared.notes.Notes.{Notes};
+ghost use Rattle.std.specs.Prelude.{◌≡◌, ◌≤◌, ◌<◌, ◌+◌, length};
 ghost use Rattle.db_text.specs.Machine;
 ghost use Rattle.db_text.specs.Outcome;
 ghost use Rattle.db_text.specs.Text;
@@ -39,7 +38,7 @@ fn advance(mode: Mode, notes: &mut Notes, line: u32, byte: u8) -> Result<Mode, T
 
 /// The bytes behind those that leave a mode as it is.
 fn behind_staying(mode: Mode, text: &[u8]) -> &[u8]
-    ensures same { (line : ℕ) (n : Notes) → Outcome.outcome line mode n result.now ≡ Outcome.outcome line mode n text.now }
+    ensures same { Outcome.KeepsOutcome mode text.now result.now }
     ensures within { length result.now ≤ length text.now }
 {
     let (_staying, behind) = text.split_at(staying(mode, text));

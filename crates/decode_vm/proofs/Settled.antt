@@ -1,12 +1,11 @@
 -- What a machine makes of an evaluation.
 use Rattle.std.specs.Prelude.{[], Option, Some, None, Result, Ok, Err}
-use Rattle.std.proofs.Common.{refl, sym, subst, append-nil}
+use Rattle.std.proofs.Common.{sym, subst, append-nil}
 use Rattle.db_model.specs.declared.database.Database.{Database}
 use Rattle.db_model.specs.declared.env.Env.{Env}
 use Rattle.db_model.specs.declared.no_memory.NoMemory.{NoMemory}
-use Rattle.db_model.specs.declared.value.Value.{Value}
-use Rattle.db_model.specs.Expression.{Eval, ◌>>=◌, give, num}
-use Rattle.db_model.specs.Over.{Point, point, Ends}
+use Rattle.db_model.specs.Expression.{Eval}
+use Rattle.db_model.specs.Over.{point, Ends}
 use Rattle.db_model.specs.Questions.{Log, play}
 use Rattle.db_model.specs.Runs.{within}
 use Rattle.db_model.specs.Session.{Session}
@@ -14,10 +13,9 @@ use Rattle.db_model.proofs.Over.{within_ends, within_refused}
 use Rattle.expr_eval.specs.declared.end.EvalEnd.{EvalEnd}
 use Rattle.expr_eval.specs.declared.end.EvalEnd.TheVariants as end
 use Rattle.expr_eval.specs.Evaluates.{Evaluates, itself}
-use Rattle.expr_eval.proofs.Steps.{gives, then_ok, then_err}
 use Rattle.decode_vm.specs.declared.machine.Machine.{Machine}
 use Rattle.decode_vm.specs.Machine.{at_env}
-use Rattle.decode_vm.specs.Values.{Settled, numbered, Valued}
+use Rattle.decode_vm.specs.Values.{Settled, Valued}
 
 module _ {A : Type 0} (db : Database) (q : Eval A) (m : Machine) (c : Session) (l : Option Log) (env : Env) (c' : Session) (l' : Option Log) where
   pub settled : (value : Result A EvalEnd) (o : Result (Option A) NoMemory) (n : Machine) → Evaluates db q itself (point m.frame.env c l) value (point env c' l') → Settled value (at_env env m) o n → Valued db q m c l o n c' l'
@@ -43,7 +41,3 @@ module _ {A : Type 0} (db : Database) (q : Eval A) (m : Machine) (c : Session) (
   settled (Err end.NoMemory) (Ok (Some u)) n e s = absurd s
   settled (Err end.NoMemory) (Ok None) n e s = absurd s
   settled (Err end.NoMemory) (Err f) n e s = record { ends = within_refused db m.frame.env.packet.stamp q m.frame f env n.frame c l c' l' e.ends }
-
-pub as_number : (db : Database) (p : Eval Value) (m n : Point Env) (o : Result Value EvalEnd) → Evaluates db p itself m o n → Evaluates db (p >>= (λ v. give (num v))) itself m (numbered o) n
-as_number db p m n (Ok v) h = then_ok db (λ (x : Value). give (num x)) {h = itself} v h (gives db (Ok (num v)) refl)
-as_number db p m n (Err e) h = then_err db (λ (x : Value). give (num x)) e h

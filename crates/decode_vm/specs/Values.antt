@@ -1,11 +1,10 @@
 -- What the evaluation of an expression in a machine gives: a value; or a reason, with which the decoding ends; or memory was refused.
-use Rattle.std.specs.Prelude.{◌≡◌, ℕ, Option, Some, None, Result, Ok, Err}
+use Rattle.std.specs.Prelude.{◌≡◌, Option, Some, None, Result, Ok, Err}
 use Rattle.db_model.specs.declared.database.Database.{Database}
 use Rattle.db_model.specs.declared.env.Env.{Env}
 use Rattle.db_model.specs.declared.no_memory.NoMemory.{NoMemory}
 use Rattle.db_model.specs.declared.tree.Reason.{Reason}
-use Rattle.db_model.specs.declared.value.Value.{Value}
-use Rattle.db_model.specs.Expression.{Eval, num}
+use Rattle.db_model.specs.Expression.{Eval}
 use Rattle.db_model.specs.Over.{point, Ends}
 use Rattle.db_model.specs.Questions.{Log}
 use Rattle.db_model.specs.Runs.{within}
@@ -27,11 +26,6 @@ Settled (Err (end.Fault r)) m (Err e) n = Unit {0}
 Settled (Err end.NoMemory) m (Ok (Some u)) n = ⊥
 Settled (Err end.NoMemory) m (Ok None) n = ⊥
 Settled (Err end.NoMemory) m (Err e) n = Unit {0}
-
--- an outcome as a number
-abbrev pub numbered : Result Value EvalEnd → Result ℕ EvalEnd
-numbered (Ok v) = Ok (num v)
-numbered (Err e) = Err e
 
 module _ {A : Type 0} (db : Database) (q : Eval A) (m : Machine) (c : Session) (l : Option Log) where
   pub record Gave (v : A) (n : Machine) (c' : Session) (l' : Option Log) : Type 0 where

@@ -79,7 +79,7 @@ fn add(
 {
     let pos = m.frame.env.at;
     let value = value_of(alloc, kind, piece(&m.frame.env.packet.bytes, pos, size))?;
-    m.frame.env.present.push((number, value.clone()?))?;
+    m.frame.env.present.push(number, value.clone()?)?;
     m.nodes.push(Node::Field {
         field: number,
         pos,

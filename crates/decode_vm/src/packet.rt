@@ -35,7 +35,7 @@ pub fn decode<A: Answers, L: Ledger>(
     steps.count();
     asks_properly();
     let _checked = db.database();
-    let first = db.protocol_at(b"startproto") as u16;
+    let first = db.first_protocol();
     let env = start(alloc, db, packet)?;
     let frame = Frame {
         env,

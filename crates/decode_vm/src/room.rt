@@ -31,7 +31,7 @@ pub fn no_nodes(alloc: Global) -> Nodes
 pub fn no_fields(alloc: Global) -> FieldValues
     ensures { result ≡ [] }
 {
-    FieldValues::from_vec(with_room(alloc, USUAL_FIELDS))
+    FieldValues::with_room(alloc, USUAL_FIELDS)
 }
 
 /// No protocols yet, with room for those of most packets.

@@ -2,7 +2,7 @@ ghost use Rattle.std.specs.Prelude.{◌≡◌, ◌<◌, OnOk};
 ghost use Rattle.db_model.specs.Expression.{num, proto};
 ghost use Rattle.decode_vm.specs.Machine.{halted};
 ghost use Rattle.decode_vm.specs.Program.{HasValue};
-ghost use Rattle.decode_vm.specs.Values.{Settled, numbered};
+ghost use Rattle.decode_vm.specs.Values.{Settled};
 ghost use Rattle.expr_code.specs.Meaning.{code_val};
 ghost use Rattle.pdl_code.specs.Does.{number};
 
@@ -10,7 +10,7 @@ use crate::machine::{Machine, Mode};
 use crate::program::Program;
 use db_model::{Answers, NoMemory, Node, Reason, STAMP_END, Value, Way};
 use expr_code::ExprCode;
-use expr_eval::{EvalEnd, eval};
+use expr_eval::{EvalEnd, eval, eval_number};
 
 /// Ends the decoding: its note is the last node of the innermost list.
 pub fn halt(m: &mut Machine, reason: Reason) -> Result<(), NoMemory>
@@ -53,7 +53,7 @@ pub fn evaluate<A: Answers>(
     settle(m, value)
 }
 
-/// The same as a number.
+/// The same as a number, 0 where it is none.
 pub fn evaluate_number<A: Answers>(
     program: &Program<'_>,
     code: &ExprCode,
@@ -66,17 +66,8 @@ pub fn evaluate_number<A: Answers>(
     ensures value { HasValue A.content A.told program.now (number program.now.db.now code.now)
         (m.old, answers.old) result (m.new, answers.new) }
 {
-    let value = eval(program.alloc, code, program.db, &mut m.frame.env, answers);
-    settle(m, as_number(value))
-}
-
-fn as_number(value: Result<Value, EvalEnd>) -> Result<u32, EvalEnd>
-    ensures { result ≡ numbered value }
-{
-    match value {
-        Ok(v) => Ok(number_of(&v)),
-        Err(e) => Err(e),
-    }
+    let value = eval_number(program.alloc, code, program.db, &mut m.frame.env, answers);
+    settle(m, value)
 }
 
 /// 0 where it is no number.

@@ -1,4 +1,5 @@
 pub mod Engine
 pub mod Laws
+pub mod Ready
 pub mod Texts
 pub mod Trace

@@ -1,4 +1,5 @@
-ghost use Rattle.std.specs.Prelude.{◌≡◌, ◌+◌, ◌<◌, IfOk, OnOk};
+ghost use Rattle.std.specs.List.{All};
+ghost use Rattle.std.specs.Prelude.{◌≡◌, ◌+◌, ◌<◌, ◌≤◌, [], length, IfOk, OnOk};
 ghost use Rattle.db_model.specs.Decoding.{dec};
 ghost use Rattle.db_model.specs.Over.{extended};
 ghost use Rattle.db_model.specs.declared.limits.TheConstants.{STAMP_END};
@@ -6,15 +7,17 @@ ghost use Rattle.pdml_out.specs.Pdml;
 ghost use Rattle.psml_out.specs.Psml;
 ghost use Rattle.session.specs.State.{new_session};
 ghost use Rattle.engine.specs.Engine.{HasParts};
+ghost use Rattle.engine.specs.Ready.{IsSettled, Settles, session_after};
 ghost use Rattle.engine.specs.Texts.{HasOpenings, HasTexts, text_if};
 
+use crate::ready::{Ready, serial_receipt};
 use crate::texts::{Texts, Wanted, put};
 use db_model::{Answers, CheckedDb, NoMemory, Packet, PacketTree};
 use decode_vm::{Steps, decode};
 use pdl_code::{Code, compile};
-use psml_out::Summaries;
+use psml_out::{Summaries, Summed};
 use session::Session;
-use show::Labels;
+use show::{Labelled, Labels};
 use std::alloc::Global;
 use std::marker::Model;
 use std::sync::Arc;
@@ -153,6 +156,20 @@ impl Engine {
         Session::new(self.alloc, &self.db)
     }
 
+    /// The database with its labels.
+    fn labelled(&self) -> Labelled<'_>
+        ensures { result ≡ self.now }
+    {
+        Labelled::of(&self.db, &self.labels)
+    }
+
+    /// The same with its summaries.
+    fn summed(&self) -> Summed<'_>
+        ensures { result ≡ self.now }
+    {
+        Summed::of(self.labelled(), &self.summaries)
+    }
+
     fn put_psml_opening(&self, wanted: bool, text: &mut Vec<u8>) -> Result<(), NoMemory>
         ensures { OnOk result (text.new.items ≡ text_if wanted (Psml.opening self.now)) }
     {
@@ -185,7 +202,7 @@ impl Engine {
     {
         text.clear();
         if wanted {
-            pdml_out::push_packet_text(text, &self.db, &self.labels, packet, tree)
+            pdml_out::push_packet_text(text, &self.labelled(), packet, tree)
         } else {
             Ok(())
         }
@@ -203,7 +220,7 @@ impl Engine {
     {
         text.clear();
         if wanted {
-            psml_out::push_packet_text(text, &self.db, &self.labels, &self.summaries, packet, tree)
+            psml_out::push_packet_text(text, &self.summed(), packet, tree)
         } else {
             Ok(())
         }
@@ -232,5 +249,67 @@ impl Engine {
         let tree = decode(self.alloc, &self.db, &self.code, packet, answers, steps)?;
         self.put_pdml(wanted.pdml, packet, &tree, &mut texts.pdml)?;
         self.put_psml(wanted.psml, packet, &tree, &mut texts.psml)
+    }
+
+    /// Buffers for the texts of a packet, with room for as much as the last of these has, so that they seldom grow.
+    fn room_behind(&self, ready: &[Ready]) -> Result<Texts, NoMemory> {
+        match ready.last() {
+            Some(before) => Texts::like(self.alloc, &before.texts),
+            None => Ok(Texts::new(self.alloc)),
+        }
+    }
+
+    /// Decodes a packet and settles it behind these.
+    fn settle_one<A: Answers, L: Ledger>(
+        &self,
+        packet: &Packet,
+        wanted: Wanted,
+        answers: &mut A,
+        steps: &mut Steps<L>,
+        ready: &[Ready],
+    ) -> Result<Ready, NoMemory>
+        requires database { A.database answers.old ≡ self.now }
+        requires time { packet.now.stamp < STAMP_END }
+        ensures database { A.database answers.new ≡ self.now }
+        ensures settled { IfOk result (IsSettled wanted self.now packet.now
+            (dec self.now packet.now (A.content answers.old)).result) }
+        ensures session { OnOk result (A.content answers.new
+            ≡ (dec self.now packet.now (A.content answers.old)).session) }
+        ensures steps { OnOk result (steps.new ≡ steps.old + 1) }
+        ensures most { steps.new ≤ steps.old + 1 }
+    {
+        let mut texts = self.room_behind(ready)?;
+        self.decode(packet, wanted, answers, steps, &mut texts)?;
+        Ok(Ready {
+            texts,
+            receipt: serial_receipt(packet.number),
+        })
+    }
+
+    /// Decodes packets in order, each from what the one before it left, and settles each. `ready` comes empty.
+    pub fn settle<A: Answers, L: Ledger>(
+        &self,
+        packets: &[Packet],
+        wanted: Wanted,
+        answers: &mut A,
+        steps: &mut Steps<L>,
+        ready: &mut Vec<Ready>,
+    ) -> Result<(), NoMemory>
+        requires database { A.database answers.old ≡ self.now }
+        requires time { All (λ packet. packet.stamp < STAMP_END) packets.now }
+        requires empty { ready.old.items ≡ [] }
+        ensures database { A.database answers.new ≡ self.now }
+        ensures ready { OnOk result (Settles wanted self.now (A.content answers.old)
+            packets.now ready.new.items) }
+        ensures session { OnOk result (A.content answers.new
+            ≡ session_after self.now (A.content answers.old) packets.now) }
+        ensures steps { OnOk result (steps.new ≡ steps.old + length packets.now) }
+        ensures most { steps.new ≤ steps.old + length packets.now }
+    {
+        for packet in packets {
+            let one = self.settle_one(packet, wanted, answers, steps, ready)?;
+            ready.push(one)?;
+        }
+        Ok(())
     }
 }

@@ -1,4 +1,5 @@
 use crate::engine::Engine;
+use crate::ready::Ready;
 use crate::receipt::Receipt;
 use crate::texts::Texts;
 use db_model::{CheckedDb, Packet, Sequence};
@@ -28,3 +29,5 @@ impl HandedOn for Packet {}
 impl HandedOn for Texts {}
 
 impl HandedOn for Receipt {}
+
+impl HandedOn for Ready {}

@@ -1,4 +1,4 @@
-ghost use Rattle.std.specs.Prelude.{◌≡◌, [], OnOk};
+ghost use Rattle.std.specs.Prelude.{◌≡◌, [], IfOk, OnOk};
 ghost use Rattle.engine.specs.Texts.{HasClosings, text_if};
 
 use db_model::NoMemory;
@@ -28,6 +28,17 @@ impl Texts {
             pdml: Vec::new(alloc),
             psml: Vec::new(alloc),
         }
+    }
+
+    /// No text yet, and room for texts as long as these.
+    pub fn like(alloc: Global, texts: &Texts) -> Result<Texts, NoMemory>
+        ensures pdml { IfOk result (λ made. made.pdml.items ≡ []) }
+        ensures psml { IfOk result (λ made. made.psml.items ≡ []) }
+    {
+        Ok(Texts {
+            pdml: Vec::with_capacity(alloc, texts.pdml.len())?,
+            psml: Vec::with_capacity(alloc, texts.psml.len())?,
+        })
     }
 }
 

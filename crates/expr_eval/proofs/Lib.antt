@@ -1,4 +1,5 @@
 pub mod Bytes
 pub mod Steps
 pub mod Forms
-pub mod Backwards
+pub mod Latest
+pub mod Taken

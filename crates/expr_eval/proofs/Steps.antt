@@ -9,7 +9,8 @@ use Rattle.db_model.specs.declared.env.Env.{Env}
 use Rattle.db_model.specs.declared.question.Question.TheVariants.{Look}
 use Rattle.db_model.specs.declared.tree.Reason.{Reason}
 use Rattle.db_model.specs.declared.value.Value.{Value}
-use Rattle.db_model.specs.Expression.{Eval, ◌>>=◌, result, num, buf, is_so, when, keys_from}
+use Rattle.db_model.specs.declared.value.Value.TheVariants.{Num}
+use Rattle.db_model.specs.Expression.{Eval, ◌>>=◌, result, buf, when, keys_from}
 use Rattle.db_model.specs.Fitting.{keys_fit, look_fits_in, look_fits, question_fits}
 use Rattle.db_model.specs.Table.{KeyList}
 use Rattle.db_model.specs.declared.tree.Reason.TheVariants as reason
@@ -23,7 +24,7 @@ use Rattle.expr_eval.specs.declared.operand.Operand.TheVariants.{Own}
 use Rattle.expr_eval.specs.Operand.{shown}
 use Rattle.expr_eval.specs.Reads.{looked_up}
 use Rattle.expr_eval.specs.Sources.{Sources, sources}
-use Rattle.expr_eval.specs.Evaluates.{outcome, Stays, Evaluates, itself, Gave}
+use Rattle.expr_eval.specs.Evaluates.{outcome, Stays, Evaluates, itself, counted, Gave}
 
 stays_on : (x y z : Env) → Stays x y → Stays y z → Stays x z
 stays_on x y z h k = k ∙ ap (λ (e : Env). record e { hits = z.hits; questions = z.questions }) h
@@ -82,32 +83,16 @@ module _ (db : Database) where
   recast {p = p} {f = f} {m = m} {n = n} e h = subst (λ o. Evaluates db p f m o n) (sym e) h
 
   -- an answer that is known at the first state, or at the last
-  pub finish_1 : {p : Eval Value} {m n : Point Env} {o : Result Operand EvalEnd} (d : Value → Result Value Reason) (x : Operand) → Evaluates db p shown m (Ok x) n → Gave (shown (sources n.held)) (d (shown (sources n.held) x)) o → Evaluates db (p >>= (λ v. result (d v))) shown m o n
+  pub finish_1 : {p : Eval Value} {m n : Point Env} {o : Result ℕ EvalEnd} (d : Value → Result Value Reason) (x : Operand) → Evaluates db p shown m (Ok x) n → Gave Num (d (shown (sources n.held) x)) o → Evaluates db (p >>= (λ v. result (d v))) counted m o n
   finish_1 {p} {m} {n} {o} d x h g =
       then_ok db (λ v. result (d v)) x h (gives db (d (shown (sources m.held) x))
-      (subst (λ (q : Sources). Gave (shown (sources n.held)) (d (shown q x)) o) (sources_stay m.held n.held h.stays) g))
+      (subst (λ (q : Sources). Gave Num (d (shown q x)) o) (sources_stay m.held n.held h.stays) g))
 
-  pub finish_2 : {p q : Eval Value} {m n k : Point Env} {o : Result Operand EvalEnd} (d : Value → Value → Result Value Reason) (x y : Operand) → Evaluates db p shown m (Ok x) n → Evaluates db q shown n (Ok y) k
-      → Gave (shown (sources k.held)) (d (shown (sources k.held) x) (shown (sources k.held) y)) o → Evaluates db (p >>= (λ v. q >>= (λ w. result (d v w)))) shown m o k
+  pub finish_2 : {p q : Eval Value} {m n k : Point Env} {o : Result ℕ EvalEnd} (d : Value → Value → Result Value Reason) (x y : Operand) → Evaluates db p shown m (Ok x) n → Evaluates db q shown n (Ok y) k
+      → Gave Num (d (shown (sources k.held) x) (shown (sources k.held) y)) o → Evaluates db (p >>= (λ v. q >>= (λ w. result (d v w)))) counted m o k
   finish_2 {p} {q} {m} {n} {k} {o} d x y h i g =
       then_ok db (λ v. q >>= (λ w. result (d v w))) x h (finish_1 (d (shown (sources m.held) x)) y i
-      (subst (λ (r : Sources). Gave (shown (sources k.held)) (d (shown r x) (shown (sources k.held) y)) o) (sources_stay n.held k.held i.stays ∙ sources_stay m.held n.held h.stays) g))
-
-  pub finish_3 : {p q r : Eval Value} {m n k l : Point Env} {o : Result Operand EvalEnd} (d : Value → Value → Value → Result Value Reason) (x y z : Operand) → Evaluates db p shown m (Ok x) n → Evaluates db q shown n (Ok y) k → Evaluates db r shown k (Ok z) l
-      → Gave (shown (sources l.held)) (d (shown (sources l.held) x) (shown (sources l.held) y) (shown (sources l.held) z)) o → Evaluates db (p >>= (λ v. q >>= (λ w. r >>= (λ u. result (d v w u))))) shown m o l
-  finish_3 {p} {q} {r} {m} {n} {k} {l} {o} d x y z h i j g =
-      then_ok db (λ v. q >>= (λ w. r >>= (λ u. result (d v w u)))) x h (finish_2 (d (shown (sources m.held) x)) y z i j
-      (subst (λ (s : Sources). Gave (shown (sources l.held)) (d (shown s x) (shown (sources l.held) y) (shown (sources l.held) z)) o)
-      (sources_stay k.held l.held j.stays ∙ sources_stay n.held k.held i.stays ∙ sources_stay m.held n.held h.stays) g))
-
-  -- a value decides what follows
-  pub then_so : {p q : Eval Value} (r : Eval Value) {m n k : Point Env} {o : Result Operand EvalEnd} (x : Operand) → Evaluates db p shown m (Ok x) n → is_so (num (shown (sources m.held) x)) ≡ true → Evaluates db q shown n o k → Evaluates db (p >>= (λ v. if is_so (num v) then q else r)) shown m o k
-  then_so {p} {q} r {m} {n} {k} {o} x h b i =
-      then_ok db (λ v. if is_so (num v) then q else r) x h (subst (λ (c : Bool). Evaluates db (if c then q else r) shown n o k) (sym b) i)
-
-  pub then_not : {p r : Eval Value} (q : Eval Value) {m n k : Point Env} {o : Result Operand EvalEnd} (x : Operand) → Evaluates db p shown m (Ok x) n → is_so (num (shown (sources m.held) x)) ≡ false → Evaluates db r shown n o k → Evaluates db (p >>= (λ v. if is_so (num v) then q else r)) shown m o k
-  then_not {p} {r} q {m} {n} {k} {o} x h b i =
-      then_ok db (λ v. if is_so (num v) then q else r) x h (subst (λ (c : Bool). Evaluates db (if c then q else r) shown n o k) (sym b) i)
+      (subst (λ (r : Sources). Gave Num (d (shown r x) (shown (sources k.held) y)) o) (sources_stay n.held k.held i.stays ∙ sources_stay m.held n.held h.stays) g))
 
   -- memory refused after the whole was done
   pub refused_after : {A B C : Type 0} {p : Eval A} {f : Sources → B → A} (h : Sources → C → A) {m n : Point Env} (b : B) → Evaluates db p f m (Ok b) n → Evaluates db p h m (Err end.NoMemory) n

@@ -1,10 +1,12 @@
 -- What a call says that has evaluated: what it answers is what the definition gives, its questions are those of the definition in order, and of the state only the rows last hit and the questions left are changed.
-use Rattle.std.specs.Prelude.{◌≡◌, Result, Ok, Err}
+use Rattle.std.specs.Prelude.{◌≡◌, ℕ, Result, Ok, Err}
 use Rattle.db_model.specs.declared.database.Database.{Database}
 use Rattle.db_model.specs.declared.env.Env.{Env}
 use Rattle.db_model.specs.declared.no_memory.NoMemory.{NoMemory}
 use Rattle.db_model.specs.declared.tree.Reason.{Reason}
-use Rattle.db_model.specs.Expression.{Eval}
+use Rattle.db_model.specs.declared.value.Value.{Value}
+use Rattle.db_model.specs.declared.value.Value.TheVariants.{Num}
+use Rattle.db_model.specs.Expression.{Eval, ◌>>=◌, give, num}
 use Rattle.db_model.specs.Over.{Point, Ends}
 use Rattle.expr_eval.specs.declared.end.EvalEnd.{EvalEnd}
 use Rattle.expr_eval.specs.declared.end.EvalEnd.TheVariants as end
@@ -28,6 +30,14 @@ pub record Evaluates {A B : Type 0} (db : Database) (p : Eval A) (shows : Source
 -- an answer that is the value itself
 abbrev pub itself : {A : Type 0} → Sources → A → A
 itself held a = a
+
+-- an answer that is the number that the value is
+abbrev pub counted : Sources → ℕ → Value
+counted held n = Num n
+
+-- a computation's value taken as a number, 0 where it is none
+abbrev pub number_of : Eval Value → Eval ℕ
+number_of p = p >>= (λ v. give (num v))
 
 -- a call without questions gave what the definition gives, or was refused memory
 abbrev pub Gave : {A B : Type 0} → (B → A) → Result A Reason → Result B EvalEnd → Type 0

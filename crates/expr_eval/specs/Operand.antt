@@ -1,8 +1,9 @@
 -- What the parts of an expression give, as the values that they stand for.
-use Rattle.std.specs.Prelude.{ℕ, List, [], take, drop, slice_get, Option, Some, None}
+use Rattle.std.specs.Prelude.{ℕ, List, [], take, drop, slice_get, Option, Some, None, Result, Ok, Err}
 use Rattle.db_model.specs.declared.value.Value.{Value}
 use Rattle.db_model.specs.declared.value.Value.TheVariants.{Num, Buf, Proto}
 use Rattle.db_model.specs.Expression.{buf, value_or_zero}
+use Rattle.expr_eval.specs.declared.end.EvalEnd.{EvalEnd}
 use Rattle.expr_eval.specs.declared.operand.Operand.{Operand}
 use Rattle.expr_eval.specs.declared.operand.Operand.TheVariants.{Own, Piece, Field, Variable}
 use Rattle.expr_eval.specs.declared.operand.View.{View}
@@ -25,3 +26,8 @@ abbrev pub seen : View → Value
 seen (view.Number n) = Num n
 seen (view.Bytes b) = Buf b.now
 seen (view.Protocol p) = Proto p
+
+-- an answer that is a number, as an operand
+abbrev pub number_operand : Result ℕ EvalEnd → Result Operand EvalEnd
+number_operand (Ok n) = Ok (Own (Num n))
+number_operand (Err e) = Err e

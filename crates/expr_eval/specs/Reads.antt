@@ -4,13 +4,18 @@ use Rattle.db_model.specs.declared.tree.Reason.{Reason}
 use Rattle.db_model.specs.declared.tree.Reason.TheVariants as reason
 use Rattle.db_model.specs.declared.value.Value.{Value}
 use Rattle.db_model.specs.declared.value.Value.TheVariants.{Buf}
-use Rattle.db_model.specs.Expression.{Eval, ◌>>=◌, value_or_zero, asks, hit_as_number}
+use Rattle.db_model.specs.Expression.{Eval, ◌>>=◌, value_or_zero, asks, hit_as_number, to_number}
 use Rattle.db_model.specs.declared.question.Question.TheVariants.{Look}
 
 -- the bytes of a field, where there is one
 abbrev pub field_value : Option (List ℕ) → Result Value Reason
 field_value None = Err reason.NoField
 field_value (Some b) = Ok (Buf b)
+
+-- the same bytes as a number
+abbrev pub field_number : Option (List ℕ) → Result Value Reason
+field_number None = Err reason.NoField
+field_number (Some b) = to_number b
 
 -- a column of the row last hit of a table
 abbrev pub column_value : Option (Option (List Value)) → ℕ → Result Value Reason

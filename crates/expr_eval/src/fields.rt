@@ -1,42 +1,39 @@
 ghost use Rattle.std.specs.Prelude.{◌≡◌, slice_get, None, Some, MatchOption};
-ghost use Rattle.expr_code.specs.Meaning.{is_in, last_in, some_in};
+ghost use Rattle.expr_code.specs.Meaning.{last_in, some_in};
+ghost use Rattle.expr_eval.specs.Latest.{later};
 ghost use Rattle.expr_eval.specs.Operand.{bytes_at};
 
-use db_model::Bytes;
+use db_model::FieldValues;
 
-/// The place of the last of the decoded fields that has one of these numbers. They are looked at from the last one
-/// back, up to the first that has one.
-pub fn last_place(numbers: &[u32], present: &[(u32, Bytes)]) -> Option<usize>
+/// The place of the last of the decoded fields that has one of these numbers.
+pub fn last_place(numbers: &[u32], present: &FieldValues) -> Option<usize>
     ensures { MatchOption result (last_in numbers.now present.now None ≡ None)
         (λ at. last_in numbers.now present.now None ≡ Some (bytes_at (slice_get present.now at))) }
 {
-    for i in 0..present.len() {
-        let at = present.len() - 1 - i;
-        let (field, _value) = &present[at];
-        if is_among(numbers, *field) {
-            return Some(at);
-        }
+    let mut latest = None;
+    for number in numbers {
+        latest = later(latest, present.last(*number));
     }
-    None
+    latest
+}
+
+/// The later one of two places.
+fn later(a: Option<usize>, b: Option<usize>) -> Option<usize>
+    ensures { result ≡ later a b }
+{
+    match (a, b) {
+        (Some(a), Some(b)) => Some(a.max(b)),
+        (None, b) => b,
+        (a, None) => a,
+    }
 }
 
 /// Whether one of the decoded fields has one of these numbers.
-pub fn is_present(numbers: &[u32], present: &[(u32, Bytes)]) -> bool
+pub fn is_present(numbers: &[u32], present: &FieldValues) -> bool
     ensures { result ≡ some_in numbers.now present.now }
 {
-    for (field, _value) in present {
-        if is_among(numbers, *field) {
-            return true;
-        }
-    }
-    false
-}
-
-fn is_among(numbers: &[u32], field: u32) -> bool
-    ensures { result ≡ is_in numbers.now field }
-{
     for number in numbers {
-        if *number == field {
+        if present.is_present(*number) {
             return true;
         }
     }

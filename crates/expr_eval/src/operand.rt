@@ -1,13 +1,12 @@
 ghost use Rattle.std.specs.Prelude.{◌≡◌, ◌≤◌, MatchResult, length, take, drop, slice_get};
 ghost use Rattle.db_model.specs.declared.value.Value.TheVariants.{Num, Buf};
-ghost use Rattle.db_model.specs.Expression.{num, buf, truth, is_so, value_or_zero};
+ghost use Rattle.db_model.specs.Expression.{num, buf, value_or_zero};
 ghost use Rattle.expr_eval.specs.declared.end.EvalEnd.TheVariants.{NoMemory as Refused};
 ghost use Rattle.expr_eval.specs.declared.operand.Operand.TheVariants.{Own};
-ghost use Rattle.expr_eval.specs.Operand.{bytes_at, shown, seen};
+ghost use Rattle.expr_eval.specs.Operand.{bytes_at, number_operand, shown, seen};
 ghost use Rattle.expr_eval.specs.Sources.{Sources, sources};
 
 use crate::EvalEnd;
-use crate::values::of_truth;
 use db_model::{Bytes, Env, MOST_BYTES, Row, Value};
 use std::alloc::Global;
 
@@ -53,7 +52,7 @@ pub fn bytes_of(value: &Value) -> &[u8]
 }
 
 /// The value of the decoded field at this place, no bytes where there is none.
-fn field_bytes(present: &[(u32, Bytes)], at: usize) -> &[u8]
+pub fn field_bytes(present: &[(u32, Bytes)], at: usize) -> &[u8]
     ensures bytes { result.now ≡ bytes_at (slice_get present.now at) }
     ensures bound { length result.now ≤ MOST_BYTES }
 {
@@ -81,18 +80,21 @@ fn copied(alloc: Global, bytes: &[u8]) -> Result<Value, EvalEnd>
     Ok(Value::Buf(Bytes::copy_of(alloc, bytes)?))
 }
 
+/// A number as an operand.
+pub fn as_operand(n: Result<u32, EvalEnd>) -> Result<Operand, EvalEnd>
+    ensures { result ≡ number_operand n }
+{
+    match n {
+        Ok(n) => Ok(Operand::of_number(n)),
+        Err(e) => Err(e),
+    }
+}
+
 impl Operand {
     pub fn of_number(n: u32) -> Operand
         ensures { result ≡ Own (Num n) }
     {
         Operand::Own(Value::Num(n))
-    }
-
-    /// 1 where it is so, else 0.
-    pub fn of_truth(so: bool) -> Operand
-        ensures { result ≡ Own (truth so) }
-    {
-        Operand::Own(of_truth(so))
     }
 
     /// 0 where it is no number.
@@ -106,13 +108,6 @@ impl Operand {
             | Operand::Field(_)
             | Operand::Variable(_) => 0,
         }
-    }
-
-    /// Whether it is a number other than 0.
-    pub fn is_so(&self) -> bool
-        ensures { (held : Sources) → result ≡ is_so (num (shown held self.now)) }
-    {
-        self.number() != 0
     }
 
     /// No bytes where it has none.

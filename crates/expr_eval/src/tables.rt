@@ -2,10 +2,9 @@ ghost use Rattle.std.specs.Prelude.{◌≡◌, ◌<◌, true, slice_set, Some};
 ghost use Rattle.expr_eval.specs.Reads.{looked_up};
 ghost use Rattle.db_model.specs.Fitting.{question_fits};
 ghost use Rattle.db_model.specs.declared.question.Question.TheVariants.{Look};
-ghost use Rattle.expr_eval.specs.Yields.{Yields};
+ghost use Rattle.expr_eval.specs.Yields.{Counts};
 
 use crate::EvalEnd;
-use crate::operand::Operand;
 use db_model::{Answer, Answers, CheckedDb, Env, Keys, Question, Reason, Row, STAMP_END};
 
 /// The number of the table that a look-up asks in, and whether a hit renews the entry.
@@ -15,7 +14,7 @@ pub struct Asked {
     pub renew: bool,
 }
 
-/// Asks for the keys in the table of this number. Questions: none is left.
+/// Asks for the keys in the table of this number, where a hit is 1. Questions: none is left.
 pub fn look<A: Answers>(
     db: &CheckedDb,
     table: u8,
@@ -23,13 +22,13 @@ pub fn look<A: Answers>(
     renew: bool,
     env: &mut Env,
     answers: &mut A,
-) -> Result<Operand, EvalEnd>
+) -> Result<u32, EvalEnd>
     requires database { A.database answers.old ≡ db.now }
     requires time { env.old.packet.stamp < STAMP_END }
     requires fits { question_fits db.now (Look table keys renew) ≡ true }
     ensures database { A.database answers.new ≡ A.database answers.old }
     ensures packet { env.new.packet ≡ env.old.packet }
-    ensures value { Yields A.content A.told db.now (looked_up table keys renew)
+    ensures value { Counts A.content A.told db.now (looked_up table keys renew)
         (env.old, answers.old) result (env.new, answers.new) }
 {
     if env.questions == 0 {
@@ -40,9 +39,9 @@ pub fn look<A: Answers>(
     match answers.ask(&question, env.packet.stamp)? {
         Answer::Hit(row) => {
             note_hit(env, table as usize, row);
-            Ok(Operand::of_number(1))
+            Ok(1)
         }
-        Answer::Miss | Answer::Done => Ok(Operand::of_number(0)),
+        Answer::Miss | Answer::Done => Ok(0),
     }
 }
 

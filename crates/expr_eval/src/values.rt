@@ -1,6 +1,6 @@
-ghost use Rattle.std.specs.Prelude.{◌≡◌, ◌+◌, ◌*◌, ◌^◌, ◌<◌, ◌≤◌, nat_lt, Ok, Err, MatchOption, MatchResult, IfOk, vec_len, length, take, drop};
+ghost use Rattle.std.specs.Prelude.{◌≡◌, ◌+◌, ◌^◌, ◌<◌, ◌≤◌, nat_lt, MatchOption, MatchResult, IfOk, vec_len, length, take, drop};
 ghost use Rattle.db_model.specs.declared.value.Value.TheVariants.{Num};
-ghost use Rattle.db_model.specs.Expression.{num, buf, truth};
+ghost use Rattle.db_model.specs.Expression.{num, buf};
 ghost use Rattle.db_model.specs.Expression;
 ghost use Rattle.db_model.specs.Numbers;
 ghost use Rattle.db_model.specs.Numbers.{occurs};
@@ -11,8 +11,9 @@ ghost use Rattle.expr_eval.specs.Operand.{shown, seen};
 ghost use Rattle.expr_eval.specs.Sources.{Sources, sources};
 
 use crate::EvalEnd;
+use crate::numbers::{of_numbers, of_truth};
 use crate::operand::{Operand, View, piece};
-use db_model::{Bytes, Env, MOST_BYTES, MOST_NUMBER_BYTES, Operator, Reason, Value};
+use db_model::{Bytes, Env, MOST_BYTES, Operator, Reason, Value};
 use memchr::memmem;
 use std::alloc::Global;
 
@@ -23,22 +24,6 @@ fn number(x: View<'_>) -> u32
     match x {
         View::Number(n) => n,
         View::Bytes(_) | View::Protocol(_) => 0,
-    }
-}
-
-/// 1 where it is so.
-pub fn of_truth(so: bool) -> Value
-    ensures { result ≡ truth so }
-{
-    Value::Num(so as u32)
-}
-
-fn or_reason(n: Option<u32>, reason: Reason) -> Result<Value, Reason>
-    ensures { MatchOption n (result ≡ Err reason) (λ n. result ≡ Ok (Num n)) }
-{
-    match n {
-        Some(n) => Ok(Value::Num(n)),
-        None => Err(reason),
     }
 }
 
@@ -53,46 +38,14 @@ fn is_same(x: View<'_>, y: View<'_>) -> bool
     }
 }
 
-/// Range: a sum, a difference or a product is below 0 or above the greatest number. Zero: a division by 0.
-pub fn binary(op: Operator, x: View<'_>, y: View<'_>) -> Result<Value, Reason>
-    ensures { result ≡ Expression.binary op (seen x.entry) (seen y.entry) }
+/// Whether the values are the same is asked of any; the other operators take them as numbers.
+pub fn binary(op: Operator, x: View<'_>, y: View<'_>) -> Result<u32, EvalEnd>
+    ensures { Gave Num (Expression.binary op (seen x.entry) (seen y.entry)) result }
 {
-    let a = number(x);
-    let b = number(y);
     match op {
-        Operator::Add => or_reason(a.checked_add(b), Reason::Range),
-        Operator::Sub => or_reason(a.checked_sub(b), Reason::Range),
-        Operator::Mul => or_reason(a.checked_mul(b), Reason::Range),
-        Operator::Div => or_reason(a.checked_div(b), Reason::Zero),
-        Operator::Mod => or_reason(a.checked_rem(b), Reason::Zero),
-        Operator::BitAnd => Ok(Value::Num(a & b)),
-        Operator::BitOr => Ok(Value::Num(a | b)),
-        Operator::Lt => Ok(of_truth(a < b)),
-        Operator::Le => Ok(of_truth(a <= b)),
-        Operator::Gt => Ok(of_truth(a > b)),
-        Operator::Ge => Ok(of_truth(a >= b)),
         Operator::Eq => Ok(of_truth(is_same(x, y))),
         Operator::Ne => Ok(of_truth(!is_same(x, y))),
-    }
-}
-
-fn joined(high: u32, low: u8) -> u32
-    requires { high < 2 ^ 24 }
-    ensures { result ≡ 256 * high + low }
-{
-    256 * high + low as u32
-}
-
-/// Size: there is no byte, or there are more than a number has.
-pub fn to_number(bytes: &[u8]) -> Result<Value, Reason>
-    ensures { result ≡ Expression.to_number bytes.now }
-{
-    match *bytes {
-        [a] => Ok(Value::Num(a as u32)),
-        [a, b] => Ok(Value::Num(joined(a as u32, b))),
-        [a, b, c] => Ok(Value::Num(joined(joined(a as u32, b), c))),
-        [a, b, c, d] => Ok(Value::Num(joined(joined(joined(a as u32, b), c), d))),
-        _ => Err(Reason::Size),
+        _ => of_numbers(op, number(x), number(y)),
     }
 }
 

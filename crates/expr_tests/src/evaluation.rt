@@ -52,9 +52,12 @@ enum Wanted {
 /// The values of the protocol's first field that are decoded.
 type Decoded = &'static [&'static [u8]];
 
-/// Expressions over the database with one table and the packet `abcde`: how many questions are left, which values
-/// of the field `f` are decoded, what they come to, and how many questions they ask.
-const CASES: [(&[u8], u32, Decoded, Wanted, usize); 17] = [
+/// An expression, how many questions are left, which values of the field `f` are decoded, what it comes to, and how
+/// many questions it asks.
+type Case = (&'static [u8], u32, Decoded, Wanted, usize);
+
+/// Expressions over the database with one table and the packet `abcde`.
+const CASES: [Case; 17] = [
     (b"1+2*3", 9, &[], Wanted::Num(7), 0),
     (b"'abc'[1:2]", 9, &[], Wanted::Buf(b"\x62\x63"), 0),
     (b"$packet[1:4][1:3]", 9, &[], Wanted::Buf(b"cde"), 0),
@@ -115,7 +118,7 @@ fn packet(alloc: Global) -> Result<Packet, NoMemory>
 fn present(alloc: Global, decoded: Decoded) -> Result<FieldValues, NoMemory> {
     let mut values = FieldValues::new(alloc);
     for value in decoded {
-        values.push((0, copy(alloc, value)?))?;
+        values.push(0, copy(alloc, value)?)?;
     }
     Ok(values)
 }
@@ -150,16 +153,9 @@ fn is_wanted(end: &Result<Value, EvalEnd>, wanted: Wanted) -> bool {
     }
 }
 
-/// Whether an expression comes to what is wanted, and asks so many questions.
-fn comes_to(
-    alloc: Global,
-    db: &CheckedDb,
-    text: &[u8],
-    questions: u32,
-    decoded: Decoded,
-    wanted: Wanted,
-    asked: usize,
-) -> Result<bool, ExprFail> {
+/// Whether the expression of a case comes to what is wanted, and asks so many questions.
+fn comes_to(alloc: Global, db: &CheckedDb, case: &Case) -> Result<bool, ExprFail> {
+    let (text, questions, decoded, wanted, asked) = *case;
     let e = parse_expr(alloc, text)?;
     let found = evaluated(alloc, db, &e, questions, decoded);
     drop(e);
@@ -169,8 +165,8 @@ fn comes_to(
 
 /// The place of the first case that comes to something else.
 fn first_wrong(alloc: Global, db: &CheckedDb) -> Result<Option<usize>, ExprFail> {
-    for (i, (text, questions, decoded, wanted, asked)) in CASES.iter().enumerate() {
-        if !comes_to(alloc, db, text, *questions, decoded, *wanted, *asked)? {
+    for (i, case) in CASES.iter().enumerate() {
+        if !comes_to(alloc, db, case)? {
             return Ok(Some(i));
         }
     }

@@ -164,7 +164,8 @@ fn push_operand(text: &mut Vec<u8>, e: &Expr) -> Result<(), NoMemory>
 /// An operand with what stands behind it.
 #[cycle(print)]
 fn push_left(text: &mut Vec<u8>, e: &Expr, behind: &[u8]) -> Result<(), NoMemory>
-    ensures { OnOk result (text.new.items ≡ text.old.items ++ (Printing.operand (Printing.printing e.now) ++ behind.now)) }
+    ensures { OnOk result (text.new.items
+        ≡ text.old.items ++ (Printing.operand (Printing.printing e.now) ++ behind.now)) }
 {
     push_operand(text, e)?;
     push(text, behind)
@@ -173,7 +174,8 @@ fn push_left(text: &mut Vec<u8>, e: &Expr, behind: &[u8]) -> Result<(), NoMemory
 /// An operand with a reserved word behind it.
 #[cycle(print)]
 fn push_left_word(text: &mut Vec<u8>, e: &Expr, word: ReservedWord) -> Result<(), NoMemory>
-    ensures { OnOk result (text.new.items ≡ text.old.items ++ (Printing.operand (Printing.printing e.now) ++ Printing.spaced word)) }
+    ensures { OnOk result (text.new.items
+        ≡ text.old.items ++ (Printing.operand (Printing.printing e.now) ++ Printing.spaced word)) }
 {
     push_operand(text, e)?;
     push_spaced(text, word)
@@ -182,7 +184,8 @@ fn push_left_word(text: &mut Vec<u8>, e: &Expr, word: ReservedWord) -> Result<()
 /// An operand with an operator behind it.
 #[cycle(print)]
 fn push_left_operator(text: &mut Vec<u8>, e: &Expr, operator: Operator) -> Result<(), NoMemory>
-    ensures { OnOk result (text.new.items ≡ text.old.items ++ (Printing.operand (Printing.printing e.now) ++ Printing.operator_text operator)) }
+    ensures { OnOk result (text.new.items
+        ≡ text.old.items ++ (Printing.operand (Printing.printing e.now) ++ Printing.operator_text operator)) }
 {
     push_operand(text, e)?;
     push_operator(text, operator)
@@ -251,7 +254,8 @@ fn push_column(text: &mut Vec<u8>, table: &Name, column: &Name) -> Result<(), No
 #[cycle(print)]
 #[tactic(auto, unfolding(crate::specs::Printing::negation))]
 fn push_negation(text: &mut Vec<u8>, a: &Expr) -> Result<(), NoMemory>
-    ensures { OnOk result (text.new.items ≡ text.old.items ++ Printing.negation (Printing.operand (Printing.printing a.now))) }
+    ensures { OnOk result (text.new.items
+        ≡ text.old.items ++ Printing.negation (Printing.operand (Printing.printing a.now))) }
 {
     push_not(text)?;
     push_operand(text, a)
@@ -325,7 +329,8 @@ fn push_length_call(text: &mut Vec<u8>, a: &Expr) -> Result<(), NoMemory>
 #[cycle(print)]
 #[tactic(auto, unfolding(crate::specs::Printing::bytes_call, crate::specs::Printing::in_parentheses))]
 fn push_bytes_call(text: &mut Vec<u8>, a: &Expr, size: u32) -> Result<(), NoMemory>
-    ensures { OnOk result (text.new.items ≡ text.old.items ++ Printing.bytes_call (Printing.printing a.now).bytes size) }
+    ensures { OnOk result (text.new.items
+        ≡ text.old.items ++ Printing.bytes_call (Printing.printing a.now).bytes size) }
 {
     push_opening(text, ReservedWord::ToBytes)?;
     push_before(text, a, b", ")?;
@@ -335,7 +340,8 @@ fn push_bytes_call(text: &mut Vec<u8>, a: &Expr, size: u32) -> Result<(), NoMemo
 #[cycle(print)]
 #[tactic(auto, unfolding(crate::specs::Printing::text_call, crate::specs::Printing::in_parentheses))]
 fn push_text_call(text: &mut Vec<u8>, a: &Expr, wanted: &[u8]) -> Result<(), NoMemory>
-    ensures { OnOk result (text.new.items ≡ text.old.items ++ Printing.text_call (Printing.printing a.now).bytes wanted.now) }
+    ensures { OnOk result (text.new.items
+        ≡ text.old.items ++ Printing.text_call (Printing.printing a.now).bytes wanted.now) }
 {
     push_opening(text, ReservedWord::HasText)?;
     push_before(text, a, b", ")?;
@@ -359,7 +365,9 @@ fn push_look_up(
     table: &Name,
     keys: &[Expr],
 ) -> Result<(), NoMemory>
-    ensures { OnOk result (text.new.items ≡ text.old.items ++ Printing.look_up_call renew table.now (Printing.arguments (map Printing.printing keys.now))) }
+    ensures { OnOk result (text.new.items
+        ≡ text.old.items ++ Printing.look_up_call renew table.now (Printing.arguments
+        (map Printing.printing keys.now))) }
 {
     push_table(text, renew, table)?;
     push_arguments(text, keys)?;
@@ -368,7 +376,8 @@ fn push_look_up(
 
 /// The front of a look-up.
 fn push_table(text: &mut Vec<u8>, renew: bool, table: &Name) -> Result<(), NoMemory>
-    ensures { OnOk result (text.new.items ≡ text.old.items ++ (Printing.look_up_name renew ++ (codes "(" ++ table.now))) }
+    ensures { OnOk result (text.new.items ≡ text.old.items ++ (Printing.look_up_name renew ++ (codes "("
+        ++ table.now))) }
 {
     push_opening(text, look_up_word(renew))?;
     push(text, table.as_slice())

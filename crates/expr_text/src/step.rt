@@ -80,7 +80,8 @@ fn operator(
     e: Expr,
     frames: &mut Frames,
 ) -> Result<Option<Mode>, NoMemory>
-    ensures { IfOk result (λ mode. now mode frames.new ≡ Machine.operator operator (Machine.join (Tokens.left_level_of operator) e frames.old)) }
+    ensures { IfOk result (λ mode. now mode frames.new
+        ≡ Machine.operator operator (Machine.join (Tokens.left_level_of operator) e frames.old)) }
 {
     let left = join_up(alloc, operator.left_level(), e, frames)?;
     if frames.wanted() <= operator.level() {

@@ -33,7 +33,8 @@ pub enum Turn {
 
 #[tactic(auto, unfolding(crate::specs::Lexing::plain))]
 fn plain(byte: u8) -> Turn
-    ensures value { (w : List ℕ) → (n : ℕ) → (bs : List ℕ) → Lexing.plain w n (byte ∷ bs) ≡ Stages.turned result w n bs }
+    ensures value { (w : List ℕ) → (n : ℕ) → (bs : List ℕ) → Lexing.plain w n (byte ∷ bs)
+        ≡ Stages.turned result w n bs }
     ensures stage { Stages.IsTurn result }
 {
     if byte == b'\'' {
@@ -49,7 +50,8 @@ fn plain(byte: u8) -> Turn
 
 #[tactic(auto, unfolding(crate::specs::Lexing::escape))]
 fn escape(byte: u8) -> Turn
-    ensures value { (w : List ℕ) → (n : ℕ) → (bs : List ℕ) → Lexing.escape w n (byte ∷ bs) ≡ Stages.turned result w n bs }
+    ensures value { (w : List ℕ) → (n : ℕ) → (bs : List ℕ) → Lexing.escape w n (byte ∷ bs)
+        ≡ Stages.turned result w n bs }
     ensures stage { Stages.IsTurn result }
 {
     if byte == b'\\' || byte == b'\'' {
@@ -76,7 +78,8 @@ fn high(byte: u8) -> Turn
 #[tactic(auto, unfolding(crate::specs::Lexing::low))]
 fn low(high: u8, byte: u8) -> Turn
     requires { high < 16 }
-    ensures value { (w : List ℕ) → (n : ℕ) → (bs : List ℕ) → Lexing.low w high n (byte ∷ bs) ≡ Stages.turned result w n bs }
+    ensures value { (w : List ℕ) → (n : ℕ) → (bs : List ℕ) → Lexing.low w high n (byte ∷ bs)
+        ≡ Stages.turned result w n bs }
     ensures stage { Stages.IsTurn result }
 {
     if byte.is_ascii_hexdigit() {
@@ -88,7 +91,8 @@ fn low(high: u8, byte: u8) -> Turn
 
 fn turn_by(stage: Stage, byte: u8) -> Turn
     requires { Stages.IsStage stage }
-    ensures value { (w : List ℕ) → (n : ℕ) → (bs : List ℕ) → Stages.resume stage w n (byte ∷ bs) ≡ Stages.turned result w n bs }
+    ensures value { (w : List ℕ) → (n : ℕ) → (bs : List ℕ) → Stages.resume stage w n (byte ∷ bs)
+        ≡ Stages.turned result w n bs }
     ensures stage { Stages.IsTurn result }
 {
     match stage {

@@ -68,7 +68,8 @@ fn some_wrong(keys: &[Expr], scope: &Scope) -> bool
 /// Whether a table has so many keys, where it is declared.
 fn takes_keys(scope: &Scope, table: &Name, count: usize) -> bool
     requires { IsScope scope.now }
-    ensures { result ≡ has_keys (slice_get scope.now.database.now.tables (table_at scope.now.database.now table.now)) count }
+    ensures { result ≡ has_keys (slice_get scope.now.database.now.tables
+        (table_at scope.now.database.now table.now)) count }
 {
     let at = scope.names.table_at(scope.database, table.as_slice());
     match scope.database.tables.get(at) {

@@ -67,7 +67,8 @@ impl Scope<'_, '_> {
     /// Whether a table of this name is declared, with a data column of that name.
     pub fn has_column(&self, table: &[u8], column: &[u8]) -> bool
         requires { IsScope self.now }
-        ensures { result ≡ (is_table self.now.database.now table.now && is_among column.now (column_names (slice_get self.now.database.now.tables (table_at self.now.database.now table.now)))) }
+        ensures { result ≡ (is_table self.now.database.now table.now && is_among column.now (column_names
+            (slice_get self.now.database.now.tables (table_at self.now.database.now table.now)))) }
     {
         let at = self.names.table_at(self.database, table);
         match self.database.tables.get(at) {

@@ -128,7 +128,8 @@ fn of_variable(name: &Name, scope: &Scope) -> Option<Ty>
 /// The type of a declared variable.
 pub fn declared_type(name: &Name, scope: &Scope) -> Option<Ty>
     requires { IsScope scope.now }
-    ensures { result ≡ declared_ty (slice_get scope.now.database.now.variables (variable_at scope.now.database.now name.now)) }
+    ensures { result ≡ declared_ty (slice_get scope.now.database.now.variables
+        (variable_at scope.now.database.now name.now)) }
 {
     let at = scope.names.variable_at(scope.database, name.as_slice());
     match scope.database.variables.get(at) {
@@ -149,7 +150,9 @@ fn of_special(special: Special) -> Ty
 
 fn of_column(table: &Name, column: &Name, scope: &Scope) -> Option<Ty>
     requires { IsScope scope.now }
-    ensures { result ≡ column_ty (slice_get (columns_in (slice_get scope.now.database.now.tables (table_at scope.now.database.now table.now))) (column_at (slice_get scope.now.database.now.tables (table_at scope.now.database.now table.now)) column.now)) }
+    ensures { result ≡ column_ty (slice_get (columns_in (slice_get scope.now.database.now.tables
+        (table_at scope.now.database.now table.now))) (column_at (slice_get scope.now.database.now.tables
+        (table_at scope.now.database.now table.now)) column.now)) }
 {
     let at = scope.names.table_at(scope.database, table.as_slice());
     let declared = scope.database.tables.get(at)?;

@@ -76,7 +76,7 @@ fn is_full(env: &Env) -> bool {
         && env.questions == MOST_QUESTIONS
         && env.vars.len() == 0
         && env.hits.len() == 0
-        && env.present.len() == 0
+        && env.present.as_slice().is_empty()
         && env.packet.bytes.as_slice() == b"abc".as_slice()
 }
 

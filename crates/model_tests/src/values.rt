@@ -1,8 +1,8 @@
 ghost use Rattle.std.specs.Prelude.{◌≤◌, length};
 
 use db_model::{
-    Answer, Bytes, Bytes64, Keys, MOST_BYTES, Name, NoMemory, Question, Row, Sequence, Special,
-    Value, Word, begins_name, continues_name, is_name, is_reserved,
+    Answer, Bytes, Bytes64, FieldValues, Keys, MOST_BYTES, Name, NoMemory, Question, Row, Sequence,
+    Special, Value, Word, begins_name, continues_name, is_name, is_reserved,
 };
 use std::alloc::Global;
 use std::test::Fail;
@@ -139,5 +139,32 @@ fn questions_and_answers_are_compared(rt: HostRuntime) -> Result<(), Fail> {
     let alloc = rt.alloc();
     let differ = differ_by_renewal(alloc)?;
     assert!(rt; differ && Answer::Miss != Answer::Hit(Row::new(alloc)));
+    Ok(())
+}
+
+/// The place of the last value of a field, 9 where it has none.
+fn place(values: &FieldValues, number: u32) -> usize {
+    values.last(number).unwrap_or(9)
+}
+
+/// Where the last values of the fields 0, 1, 2 and 900 stand, when four were put, and then of 1 and 2 behind a clearing.
+fn last_places(alloc: Global) -> Result<[usize; 6], NoMemory> {
+    let mut values = FieldValues::with_room(alloc, 2);
+    values.push(1, Bytes::short(b"a"))?;
+    values.push(900, Bytes::short(b"b"))?;
+    values.push(1, Bytes::short(b"c"))?;
+    values.push(0, Bytes::short(b""))?;
+    let mut places = [0, 1, 2, 900, 1, 2].map(|number| place(&values, number));
+    values.clear();
+    values.push(2, Bytes::short(b"d"))?;
+    places[4] = place(&values, 1);
+    places[5] = place(&values, 2);
+    Ok(places)
+}
+
+#[test]
+fn the_last_value_of_each_field_is_found(rt: HostRuntime) -> Result<(), Fail> {
+    let places = last_places(rt.alloc())?;
+    assert!(rt; places == [3, 2, 9, 1, 9, 0]);
     Ok(())
 }

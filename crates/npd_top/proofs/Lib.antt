@@ -11,3 +11,4 @@ pub mod Runs
 pub mod Taking
 pub mod Told
 pub mod Turns
+pub mod Windows

@@ -30,13 +30,13 @@ take_front most packets others few =
     ∙ take-append-add packets others (most - length packets)
 
 -- the packets that are seen begin with these, and so does each whole text
-whole_of : SerialFront → (db : model.Database) (most : ℕ) (packets : List Packet) (seen rest : Seen) → length packets ≤ most → seen ≡ with_front packets rest
-    → (later : (Role → List ℕ)) × ((role : Role) → whole_texts db (take most seen.packets) role ≡ open_texts db packets role ++ later role)
-whole_of front db most packets seen rest few all =
+whole_of : SerialFront → (db : model.Database) (lines : ℕ → List ℕ) (most : ℕ) (packets : List Packet) (seen rest : Seen) → length packets ≤ most → seen ≡ with_front packets rest
+    → (later : (Role → List ℕ)) × ((role : Role) → whole_texts db lines (take most seen.packets) role ≡ open_texts db lines packets role ++ later role)
+whole_of front db lines most packets seen rest few all =
     let more = take (most - length packets) rest.packets in
     let seen_is : take most seen.packets ≡ packets ++ more = ap (λ (s : Seen). take most s.packets) all ∙ take_front most packets rest.packets few in (
-      λ role. (whole_text-front front role db packets more).0,
-      λ role. ap (λ (l : List Packet). whole_texts db l role) seen_is ∙ (whole_text-front front role db packets more).1,
+      λ role. (whole_text-front front role db lines packets more).0,
+      λ role. ap (λ (l : List Packet). whole_texts db lines l role) seen_is ∙ (whole_text-front front role db lines packets more).1,
     )
 
 -- at an end without further packets they are these
@@ -55,44 +55,44 @@ all_reached most packets seen rest reached all =
     ∙ ap (λ (n : ℕ). packets ++ take n rest.packets) (let e : most - length packets ≡ 0 = omega arith in e)
     ∙ append-nil packets
 
-module _ (front : SerialFront) (db : model.Database) (sinks : Sinks) (most : ℕ) where
+module _ (front : SerialFront) (db : model.Database) (lines : ℕ → List ℕ) (sinks : Sinks) (most : ℕ) where
   abbrev Are : Outputs → Outputs → Status → Reader → Inputs → Inputs → Type 0
-  Are old new status reader before after = OutputsAre db most (TookEach sinks old new) (λ role. TookParts role sinks old new) (TookFronts sinks old new) status reader before after
+  Are old new status reader before after = OutputsAre db lines most (TookEach sinks old new) (λ role. TookParts role sinks old new) (TookFronts sinks old new) status reader before after
 
   -- reading, decoding or writing gave up
-  pub open_output : (why : Status) (a b : Standing) → Ends db sinks most (Err why) a b → Are a.outputs b.outputs why a.reader a.inputs b.inputs
+  pub open_output : (why : Status) (a b : Standing) → Ends db lines sinks most (Err why) a b → Are a.outputs b.outputs why a.reader a.inputs b.inputs
   open_output Done a b ends = absurd ends.took
   open_output (Words index code) a b ends = absurd ends.took
   open_output (Open role) a b ends = absurd ends.took
   open_output (Read Db) a b ends = absurd ends.took
-  open_output (Read Cap) a b ends = record { given = ends.given; gave = ends.gave; text = subst (λ (ps : List Packet). TookEach sinks a.outputs b.outputs (open_texts db ps)) (sym ends.cut) ends.took }
+  open_output (Read Cap) a b ends = record { given = ends.given; gave = ends.gave; text = subst (λ (ps : List Packet). TookEach sinks a.outputs b.outputs (open_texts db lines ps)) (sym ends.cut) ends.took }
   open_output (Read Pdml) a b ends = absurd ends.took
   open_output (Read Psml) a b ends = absurd ends.took
   open_output (Read Trace) a b ends = absurd ends.took
   open_output (Read Out) a b ends = absurd ends.took
   open_output (Write role) a b ends =
-      told_map (left a.reader a.inputs) _ (λ seen. TookParts role sinks a.outputs b.outputs (whole_texts db (take most seen.packets))) (λ seen is.
-      let whole = whole_of front db most ends.packets seen is.0 ends.few is.1 in
-      parts_then sinks role a.outputs a.outputs b.outputs no_texts (open_texts db ends.packets) whole.0 (whole_texts db (take most seen.packets)) (each_none sinks a.outputs) ends.took whole.1) ends.sees
+      told_map (left a.reader a.inputs) _ (λ seen. TookParts role sinks a.outputs b.outputs (whole_texts db lines (take most seen.packets))) (λ seen is.
+      let whole = whole_of front db lines most ends.packets seen is.0 ends.few is.1 in
+      parts_then sinks role a.outputs a.outputs b.outputs no_texts (open_texts db lines ends.packets) whole.0 (whole_texts db lines (take most seen.packets)) (each_none sinks a.outputs) ends.took whole.1) ends.sees
   open_output (Database line code) a b ends = absurd ends.took
   open_output (Capture offset code) a b ends = absurd ends.took
   open_output (PacketLimit max) a b ends = absurd ends.took
   open_output NoMemory a b ends =
-      told_map (left a.reader a.inputs) _ (λ seen. TookFronts sinks a.outputs b.outputs (whole_texts db (take most seen.packets))) (λ seen is.
-      let whole = whole_of front db most ends.packets seen is.0 ends.few is.1 in
-      fronts_then sinks a.outputs a.outputs b.outputs no_texts (open_texts db ends.packets) whole.0 (whole_texts db (take most seen.packets)) (each_none sinks a.outputs) ends.took whole.1) ends.sees
+      told_map (left a.reader a.inputs) _ (λ seen. TookFronts sinks a.outputs b.outputs (whole_texts db lines (take most seen.packets))) (λ seen is.
+      let whole = whole_of front db lines most ends.packets seen is.0 ends.few is.1 in
+      fronts_then sinks a.outputs a.outputs b.outputs no_texts (open_texts db lines ends.packets) whole.0 (whole_texts db lines (take most seen.packets)) (each_none sinks a.outputs) ends.took whole.1) ends.sees
   open_output (Unbuilt which) a b ends = absurd ends.took
 
   -- the closings were written
-  whole_took : (a b : Standing) (outputs : Outputs) (packets : List Packet) → TookEach sinks a.outputs b.outputs (open_texts db packets) → TookEach sinks b.outputs outputs closing → TookEach sinks a.outputs outputs (whole_texts db packets)
+  whole_took : (a b : Standing) (outputs : Outputs) (packets : List Packet) → TookEach sinks a.outputs b.outputs (open_texts db lines packets) → TookEach sinks b.outputs outputs closing → TookEach sinks a.outputs outputs (whole_texts db lines packets)
   whole_took a b outputs packets p q =
-      each_alike sinks a.outputs outputs (λ role. open_texts db packets role ++ closing role) (whole_texts db packets)
-      (λ role. told_all (sink_of sinks role) (λ sink. open_texts db packets role ++ closing role ≡ whole_texts db packets role) (λ sink. sym (whole_text-is role db packets)))
-      (each_then sinks a.outputs b.outputs outputs (open_texts db packets) closing p q)
+      each_alike sinks a.outputs outputs (λ role. open_texts db lines packets role ++ closing role) (whole_texts db lines packets)
+      (λ role. told_all (sink_of sinks role) (λ sink. open_texts db lines packets role ++ closing role ≡ whole_texts db lines packets role) (λ sink. sym (whole_text-is role db lines packets)))
+      (each_then sinks a.outputs b.outputs outputs (open_texts db lines packets) closing p q)
 
-  pub closed_output : (status : Status) (a b : Standing) (outputs : Outputs) → Ends db sinks most (Ok status) a b → TookEach sinks b.outputs outputs closing → Are a.outputs outputs status a.reader a.inputs b.inputs
+  pub closed_output : (status : Status) (a b : Standing) (outputs : Outputs) → Ends db lines sinks most (Ok status) a b → TookEach sinks b.outputs outputs closing → Are a.outputs outputs status a.reader a.inputs b.inputs
   closed_output Done a b outputs ends took =
-      told_map (left a.reader a.inputs) _ (IsWhole db most (TookEach sinks a.outputs outputs) (λ role. TookParts role sinks a.outputs outputs) (TookFronts sinks a.outputs outputs)) (λ seen is.
+      told_map (left a.reader a.inputs) _ (IsWhole db lines most (TookEach sinks a.outputs outputs) (λ role. TookParts role sinks a.outputs outputs) (TookFronts sinks a.outputs outputs)) (λ seen is.
       record {
         packets = ends.packets;
         all = is.1 ∙ ap (with_front ends.packets) is.2 ∙ ap (λ (l : List Packet). record { packets = l; end = Whole }) (append-nil ends.packets);
@@ -100,7 +100,7 @@ module _ (front : SerialFront) (db : model.Database) (sinks : Sinks) (most : ℕ
         text = whole_took a b outputs ends.packets ends.took.1 took;
       }) ends.sees
   closed_output (Capture offset code) a b outputs ends took =
-      told_map (left a.reader a.inputs) _ (IsBroken db most (TookEach sinks a.outputs outputs) (λ role. TookParts role sinks a.outputs outputs) (TookFronts sinks a.outputs outputs) offset code) (λ seen is.
+      told_map (left a.reader a.inputs) _ (IsBroken db lines most (TookEach sinks a.outputs outputs) (λ role. TookParts role sinks a.outputs outputs) (TookFronts sinks a.outputs outputs) offset code) (λ seen is.
       record {
         packets = ends.packets;
         all = is.1 ∙ ap (with_front ends.packets) is.2.0 ∙ ap (λ (l : List Packet). record { packets = l; end = Broken offset code }) (append-nil ends.packets);
@@ -108,7 +108,7 @@ module _ (front : SerialFront) (db : model.Database) (sinks : Sinks) (most : ℕ
         text = whole_took a b outputs ends.packets ends.took.1 took;
       }) ends.sees
   closed_output (PacketLimit max) a b outputs ends took =
-      told_map (left a.reader a.inputs) _ (IsLimited db most (TookEach sinks a.outputs outputs) (λ role. TookParts role sinks a.outputs outputs) (TookFronts sinks a.outputs outputs) max) (λ seen is.
+      told_map (left a.reader a.inputs) _ (IsLimited db lines most (TookEach sinks a.outputs outputs) (λ role. TookParts role sinks a.outputs outputs) (TookFronts sinks a.outputs outputs) max) (λ seen is.
       record {
         packets = ends.packets;
         rest = is.0;
@@ -127,7 +127,7 @@ module _ (front : SerialFront) (db : model.Database) (sinks : Sinks) (most : ℕ
   closed_output (Unbuilt which) a b outputs ends took = absurd ends.took.0
 
   -- the packets are all that are read where the outputs are closed
-  all_closed : (status : Status) (a b : Standing) (ends : Ends db sinks most (Ok status) a b) (seen : Seen) → (rest : Seen) × (seen ≡ with_front ends.packets rest) × LeftIs db sinks most (Ok status) (length ends.packets) rest → take most seen.packets ≡ ends.packets
+  all_closed : (status : Status) (a b : Standing) (ends : Ends db lines sinks most (Ok status) a b) (seen : Seen) → (rest : Seen) × (seen ≡ with_front ends.packets rest) × LeftIs db lines sinks most (Ok status) (length ends.packets) rest → take most seen.packets ≡ ends.packets
   all_closed Done a b ends seen is = all_of most ends.packets seen is.0 ends.few is.1 (ap (λ (s : Seen). s.packets) is.2)
   all_closed (Capture offset code) a b ends seen is = all_of most ends.packets seen is.0 ends.few is.1 (ap (λ (s : Seen). s.packets) is.2.0)
   all_closed (PacketLimit max) a b ends seen is = all_reached most ends.packets seen is.0 is.2.1 is.1
@@ -140,26 +140,26 @@ module _ (front : SerialFront) (db : model.Database) (sinks : Sinks) (most : ℕ
   all_closed (Unbuilt which) a b ends seen is = absurd ends.took.0
 
   -- the whole text is the openings and these packets, and then the closings
-  closes_with : (packets taken : List Packet) → taken ≡ packets → (role : Role) → whole_texts db taken role ≡ open_texts db packets role ++ (closing role ++ [])
+  closes_with : (packets taken : List Packet) → taken ≡ packets → (role : Role) → whole_texts db lines taken role ≡ open_texts db lines packets role ++ (closing role ++ [])
   closes_with packets taken same role =
-      ap (λ (l : List Packet). whole_texts db l role) same ∙ whole_text-is role db packets ∙ ap (λ (l : List ℕ). open_texts db packets role ++ l) (sym (append-nil (closing role)))
+      ap (λ (l : List Packet). whole_texts db lines l role) same ∙ whole_text-is role db lines packets ∙ ap (λ (l : List ℕ). open_texts db lines packets role ++ l) (sym (append-nil (closing role)))
 
   -- writing the closings gave up
-  pub unclosed_output : (status why : Status) (a b : Standing) (outputs : Outputs) → Ends db sinks most (Ok status) a b → FailsTexts why sinks b.outputs outputs closing → Are a.outputs outputs why a.reader a.inputs b.inputs
+  pub unclosed_output : (status why : Status) (a b : Standing) (outputs : Outputs) → Ends db lines sinks most (Ok status) a b → FailsTexts why sinks b.outputs outputs closing → Are a.outputs outputs why a.reader a.inputs b.inputs
   unclosed_output status Done a b outputs ends fails = absurd fails
   unclosed_output status (Words index code) a b outputs ends fails = absurd fails
   unclosed_output status (Open role) a b outputs ends fails = absurd fails
   unclosed_output status (Read role) a b outputs ends fails = absurd fails
   unclosed_output status (Write role) a b outputs ends fails =
-      told_map (left a.reader a.inputs) _ (λ seen. TookParts role sinks a.outputs outputs (whole_texts db (take most seen.packets))) (λ seen is.
-      parts_then sinks role a.outputs b.outputs outputs (open_texts db ends.packets) closing no_texts (whole_texts db (take most seen.packets)) ends.took.1 fails
+      told_map (left a.reader a.inputs) _ (λ seen. TookParts role sinks a.outputs outputs (whole_texts db lines (take most seen.packets))) (λ seen is.
+      parts_then sinks role a.outputs b.outputs outputs (open_texts db lines ends.packets) closing no_texts (whole_texts db lines (take most seen.packets)) ends.took.1 fails
       (closes_with ends.packets (take most seen.packets) (all_closed status a b ends seen is))) ends.sees
   unclosed_output status (Database line code) a b outputs ends fails = absurd fails
   unclosed_output status (Capture offset code) a b outputs ends fails = absurd fails
   unclosed_output status (PacketLimit max) a b outputs ends fails = absurd fails
   unclosed_output status NoMemory a b outputs ends fails =
-      told_map (left a.reader a.inputs) _ (λ seen. TookFronts sinks a.outputs outputs (whole_texts db (take most seen.packets))) (λ seen is.
-      fronts_then sinks a.outputs b.outputs outputs (open_texts db ends.packets) closing no_texts (whole_texts db (take most seen.packets)) ends.took.1 fails
+      told_map (left a.reader a.inputs) _ (λ seen. TookFronts sinks a.outputs outputs (whole_texts db lines (take most seen.packets))) (λ seen is.
+      fronts_then sinks a.outputs b.outputs outputs (open_texts db lines ends.packets) closing no_texts (whole_texts db lines (take most seen.packets)) ends.took.1 fails
       (closes_with ends.packets (take most seen.packets) (all_closed status a b ends seen is))) ends.sees
   unclosed_output status (Unbuilt which) a b outputs ends fails = absurd fails
 
@@ -181,71 +181,71 @@ pub opened_takes : {A : Type 0} (sinks : Sinks) (result : Result A Status) (s t 
 opened_takes sinks (Ok done) s t text takes = takes.opened
 opened_takes sinks (Err status) s t text takes = opened_fails sinks status s t text takes
 
-pub opened_ends : (db : model.Database) (sinks : Sinks) (most : ℕ) (result : Result Status Status) (a b : Standing) → Ends db sinks most result a b → b.outputs.opened ≡ a.outputs.opened
-opened_ends db sinks most (Ok status) a b ends = ends.took.1.opened
-opened_ends db sinks most (Err Done) a b ends = absurd ends.took
-opened_ends db sinks most (Err (Words index code)) a b ends = absurd ends.took
-opened_ends db sinks most (Err (Open role)) a b ends = absurd ends.took
-opened_ends db sinks most (Err (Read Db)) a b ends = absurd ends.took
-opened_ends db sinks most (Err (Read Cap)) a b ends = ends.took.opened
-opened_ends db sinks most (Err (Read Pdml)) a b ends = absurd ends.took
-opened_ends db sinks most (Err (Read Psml)) a b ends = absurd ends.took
-opened_ends db sinks most (Err (Read Trace)) a b ends = absurd ends.took
-opened_ends db sinks most (Err (Read Out)) a b ends = absurd ends.took
-opened_ends db sinks most (Err (Write role)) a b ends = ends.took.fronts.took.opened
-opened_ends db sinks most (Err (Database line code)) a b ends = absurd ends.took
-opened_ends db sinks most (Err (Capture offset code)) a b ends = absurd ends.took
-opened_ends db sinks most (Err (PacketLimit max)) a b ends = absurd ends.took
-opened_ends db sinks most (Err NoMemory) a b ends = ends.took.took.opened
-opened_ends db sinks most (Err (Unbuilt which)) a b ends = absurd ends.took
+pub opened_ends : (db : model.Database) (lines : ℕ → List ℕ) (sinks : Sinks) (most : ℕ) (result : Result Status Status) (a b : Standing) → Ends db lines sinks most result a b → b.outputs.opened ≡ a.outputs.opened
+opened_ends db lines sinks most (Ok status) a b ends = ends.took.1.opened
+opened_ends db lines sinks most (Err Done) a b ends = absurd ends.took
+opened_ends db lines sinks most (Err (Words index code)) a b ends = absurd ends.took
+opened_ends db lines sinks most (Err (Open role)) a b ends = absurd ends.took
+opened_ends db lines sinks most (Err (Read Db)) a b ends = absurd ends.took
+opened_ends db lines sinks most (Err (Read Cap)) a b ends = ends.took.opened
+opened_ends db lines sinks most (Err (Read Pdml)) a b ends = absurd ends.took
+opened_ends db lines sinks most (Err (Read Psml)) a b ends = absurd ends.took
+opened_ends db lines sinks most (Err (Read Trace)) a b ends = absurd ends.took
+opened_ends db lines sinks most (Err (Read Out)) a b ends = absurd ends.took
+opened_ends db lines sinks most (Err (Write role)) a b ends = ends.took.fronts.took.opened
+opened_ends db lines sinks most (Err (Database line code)) a b ends = absurd ends.took
+opened_ends db lines sinks most (Err (Capture offset code)) a b ends = absurd ends.took
+opened_ends db lines sinks most (Err (PacketLimit max)) a b ends = absurd ends.took
+opened_ends db lines sinks most (Err NoMemory) a b ends = ends.took.took.opened
+opened_ends db lines sinks most (Err (Unbuilt which)) a b ends = absurd ends.took
 
 -- ---- the outputs of names
 
 -- what is said of the texts is said in other words
-outputs_map : (db : model.Database) (most : ℕ) (T : (Role → List ℕ) → Type 0) (P : Role → (Role → List ℕ) → Type 0) (F T' : (Role → List ℕ) → Type 0) (P' : Role → (Role → List ℕ) → Type 0) (F' : (Role → List ℕ) → Type 0)
+outputs_map : (db : model.Database) (lines : ℕ → List ℕ) (most : ℕ) (T : (Role → List ℕ) → Type 0) (P : Role → (Role → List ℕ) → Type 0) (F T' : (Role → List ℕ) → Type 0) (P' : Role → (Role → List ℕ) → Type 0) (F' : (Role → List ℕ) → Type 0)
     → ((text : Role → List ℕ) → T text → T' text) → ((role : Role) (text : Role → List ℕ) → P role text → P' role text) → ((text : Role → List ℕ) → F text → F' text)
-    → (status : Status) (reader : Reader) (before after : Inputs) → OutputsAre db most T P F status reader before after → OutputsAre db most T' P' F' status reader before after
-outputs_map db most T P F T' P' F' t p f Done reader before after is =
-    told_map (left reader before) (IsWhole db most T P F) (IsWhole db most T' P' F') (λ seen w. record { packets = w.packets; all = w.all; few = w.few; text = t _ w.text }) is
-outputs_map db most T P F T' P' F' t p f (Words index code) reader before after is = absurd is
-outputs_map db most T P F T' P' F' t p f (Open role) reader before after is = absurd is
-outputs_map db most T P F T' P' F' t p f (Read Db) reader before after is = absurd is
-outputs_map db most T P F T' P' F' t p f (Read Cap) reader before after is = record { given = is.given; gave = is.gave; text = t _ is.text }
-outputs_map db most T P F T' P' F' t p f (Read Pdml) reader before after is = absurd is
-outputs_map db most T P F T' P' F' t p f (Read Psml) reader before after is = absurd is
-outputs_map db most T P F T' P' F' t p f (Read Trace) reader before after is = absurd is
-outputs_map db most T P F T' P' F' t p f (Read Out) reader before after is = absurd is
-outputs_map db most T P F T' P' F' t p f (Write role) reader before after is =
-    told_map (left reader before) (λ seen. P role (whole_texts db (take most seen.packets))) (λ seen. P' role (whole_texts db (take most seen.packets))) (λ seen w. p role _ w) is
-outputs_map db most T P F T' P' F' t p f (Database line code) reader before after is = absurd is
-outputs_map db most T P F T' P' F' t p f (Capture offset code) reader before after is =
-    told_map (left reader before) (IsBroken db most T P F offset code) (IsBroken db most T' P' F' offset code) (λ seen w. record { packets = w.packets; all = w.all; few = w.few; text = t _ w.text }) is
-outputs_map db most T P F T' P' F' t p f (PacketLimit max) reader before after is =
-    told_map (left reader before) (IsLimited db most T P F max) (IsLimited db most T' P' F' max)
+    → (status : Status) (reader : Reader) (before after : Inputs) → OutputsAre db lines most T P F status reader before after → OutputsAre db lines most T' P' F' status reader before after
+outputs_map db lines most T P F T' P' F' t p f Done reader before after is =
+    told_map (left reader before) (IsWhole db lines most T P F) (IsWhole db lines most T' P' F') (λ seen w. record { packets = w.packets; all = w.all; few = w.few; text = t _ w.text }) is
+outputs_map db lines most T P F T' P' F' t p f (Words index code) reader before after is = absurd is
+outputs_map db lines most T P F T' P' F' t p f (Open role) reader before after is = absurd is
+outputs_map db lines most T P F T' P' F' t p f (Read Db) reader before after is = absurd is
+outputs_map db lines most T P F T' P' F' t p f (Read Cap) reader before after is = record { given = is.given; gave = is.gave; text = t _ is.text }
+outputs_map db lines most T P F T' P' F' t p f (Read Pdml) reader before after is = absurd is
+outputs_map db lines most T P F T' P' F' t p f (Read Psml) reader before after is = absurd is
+outputs_map db lines most T P F T' P' F' t p f (Read Trace) reader before after is = absurd is
+outputs_map db lines most T P F T' P' F' t p f (Read Out) reader before after is = absurd is
+outputs_map db lines most T P F T' P' F' t p f (Write role) reader before after is =
+    told_map (left reader before) (λ seen. P role (whole_texts db lines (take most seen.packets))) (λ seen. P' role (whole_texts db lines (take most seen.packets))) (λ seen w. p role _ w) is
+outputs_map db lines most T P F T' P' F' t p f (Database line code) reader before after is = absurd is
+outputs_map db lines most T P F T' P' F' t p f (Capture offset code) reader before after is =
+    told_map (left reader before) (IsBroken db lines most T P F offset code) (IsBroken db lines most T' P' F' offset code) (λ seen w. record { packets = w.packets; all = w.all; few = w.few; text = t _ w.text }) is
+outputs_map db lines most T P F T' P' F' t p f (PacketLimit max) reader before after is =
+    told_map (left reader before) (IsLimited db lines most T P F max) (IsLimited db lines most T' P' F' max)
     (λ seen w. record { packets = w.packets; rest = w.rest; all = w.all; more = w.more; reached = w.reached; told = w.told; text = t _ w.text }) is
-outputs_map db most T P F T' P' F' t p f NoMemory reader before after is =
-    told_map (left reader before) (λ seen. F (whole_texts db (take most seen.packets))) (λ seen. F' (whole_texts db (take most seen.packets))) (λ seen w. f _ w) is
-outputs_map db most T P F T' P' F' t p f (Unbuilt which) reader before after is = absurd is
+outputs_map db lines most T P F T' P' F' t p f NoMemory reader before after is =
+    told_map (left reader before) (λ seen. F (whole_texts db lines (take most seen.packets))) (λ seen. F' (whole_texts db lines (take most seen.packets))) (λ seen w. f _ w) is
+outputs_map db lines most T P F T' P' F' t p f (Unbuilt which) reader before after is = absurd is
 
 -- the same of the named outputs, whatever the status
-named_is : (db : model.Database) (most : ℕ) (files : OutputFiles) (r t : Outputs) (status : Status) (reader : Reader) (before after : Inputs)
-    → OutputsAre db most (WroteEach files r t) (λ role. WrotePart role files r t) (WroteFronts files r t) status reader before after → NamedAre db most files status reader before after r t
-named_is db most files r t Done reader before after is = is
-named_is db most files r t (Words index code) reader before after is = is
-named_is db most files r t (Open role) reader before after is = absurd is
-named_is db most files r t (Read role) reader before after is = is
-named_is db most files r t (Write role) reader before after is = is
-named_is db most files r t (Database line code) reader before after is = is
-named_is db most files r t (Capture offset code) reader before after is = is
-named_is db most files r t (PacketLimit max) reader before after is = is
-named_is db most files r t NoMemory reader before after is = inr is
-named_is db most files r t (Unbuilt which) reader before after is = is
+named_is : (db : model.Database) (lines : ℕ → List ℕ) (most : ℕ) (files : OutputFiles) (r t : Outputs) (status : Status) (reader : Reader) (before after : Inputs)
+    → OutputsAre db lines most (WroteEach files r t) (λ role. WrotePart role files r t) (WroteFronts files r t) status reader before after → NamedAre db lines most files status reader before after r t
+named_is db lines most files r t Done reader before after is = is
+named_is db lines most files r t (Words index code) reader before after is = is
+named_is db lines most files r t (Open role) reader before after is = absurd is
+named_is db lines most files r t (Read role) reader before after is = is
+named_is db lines most files r t (Write role) reader before after is = is
+named_is db lines most files r t (Database line code) reader before after is = is
+named_is db lines most files r t (Capture offset code) reader before after is = is
+named_is db lines most files r t (PacketLimit max) reader before after is = is
+named_is db lines most files r t NoMemory reader before after is = inr is
+named_is db lines most files r t (Unbuilt which) reader before after is = is
 
-pub named_outputs : (db : model.Database) (most : ℕ) (files : OutputFiles) (sinks : Sinks) (r s t : Outputs) (status : Status) (reader : Reader) (before after : Inputs) → BegunEach sinks files r s no_texts
-    → OutputsAre db most (TookEach sinks s t) (λ role. TookParts role sinks s t) (TookFronts sinks s t) status reader before after → NamedAre db most files status reader before after r t
-named_outputs db most files sinks r s t status reader before after begun is =
-    named_is db most files r t status reader before after
-    (outputs_map db most (TookEach sinks s t) (λ role. TookParts role sinks s t) (TookFronts sinks s t) (WroteEach files r t) (λ role. WrotePart role files r t) (WroteFronts files r t)
+pub named_outputs : (db : model.Database) (lines : ℕ → List ℕ) (most : ℕ) (files : OutputFiles) (sinks : Sinks) (r s t : Outputs) (status : Status) (reader : Reader) (before after : Inputs) → BegunEach sinks files r s no_texts
+    → OutputsAre db lines most (TookEach sinks s t) (λ role. TookParts role sinks s t) (TookFronts sinks s t) status reader before after → NamedAre db lines most files status reader before after r t
+named_outputs db lines most files sinks r s t status reader before after begun is =
+    named_is db lines most files r t status reader before after
+    (outputs_map db lines most (TookEach sinks s t) (λ role. TookParts role sinks s t) (TookFronts sinks s t) (WroteEach files r t) (λ role. WrotePart role files r t) (WroteFronts files r t)
     (λ text took. wrote_each sinks files r s begun t text took)
     (λ role text took. wrote_part sinks files r s begun t role text took)
     (λ text took. wrote_fronts sinks files r s begun t text took)

@@ -20,11 +20,12 @@ use Rattle.npd_top.specs.CaptureRead.{IsBehindHeader, IsOpen, CaptureOpens}
 use Rattle.npd_top.specs.Causes.{HasDatabaseCause, HasCaptureCause}
 use Rattle.npd_top.specs.DecodeRun.{IsHeader, IsUnopened, ByHeader, GaveOf, Finds, AreWhole, IsDone, IsBroken, IsLimited, IsCut, HasProperFront, HasFront, DecodeSays}
 use Rattle.npd_top.specs.Jobs.{output_of}
-use Rattle.npd_top.specs.Loaded.{DecoderIs}
+use Rattle.npd_top.specs.Loaded.{DatabaseIs}
 use Rattle.npd_top.specs.Outputs.{open_texts, whole_texts, no_texts}
 use Rattle.npd_top.specs.Outside.{Outside, KeepsIds, WroteNothing}
 use Rattle.npd_top.specs.Packets as packets
 use Rattle.npd_top.specs.Packets.{OutputsAre, NamedAre}
+use Rattle.npd_top.specs.Serial.{serial_lines}
 use Rattle.npd_top.specs.Written.{WroteEach, WroteFronts, WrotePart, before_role}
 use Rattle.npd_top.proofs.Opening.{front_of}
 use Rattle.npd_top.proofs.Told.{told_all, told_map, told_here}
@@ -64,10 +65,10 @@ unfolding capture.seen
 seen_packets bytes most = refl
 
 -- what holds of the text of these packets holds of that of those that are seen
-text_seen : (db : model.Database) (T : (Role → List ℕ) → Type 0) (text : model.Database → List Packet → Role → List ℕ) (bytes : List ℕ) (most : ℕ) (ps : List Packet) (end : capture.End) → capture.seen bytes most ≡ record { packets = ps; end = end } → T (text db ps)
-    → ((capture.seen bytes most).end ≡ end) × T (text db (capture.seen bytes most).packets)
-text_seen db T text bytes most ps end e t =
-    (ap (λ (s : capture.Seen). s.end) e, subst (λ (l : List Packet). T (text db l)) (sym (ap (λ (s : capture.Seen). s.packets) e)) t)
+text_seen : (T : (Role → List ℕ) → Type 0) (text : List Packet → Role → List ℕ) (bytes : List ℕ) (most : ℕ) (ps : List Packet) (end : capture.End) → capture.seen bytes most ≡ record { packets = ps; end = end } → T (text ps)
+    → ((capture.seen bytes most).end ≡ end) × T (text (capture.seen bytes most).packets)
+text_seen T text bytes most ps end e t =
+    (ap (λ (s : capture.Seen). s.end) e, subst (λ (l : List Packet). T (text l)) (sym (ap (λ (s : capture.Seen). s.packets) e)) t)
 
 -- ---- what is found of the files
 
@@ -96,38 +97,38 @@ without_header bytes end Without With e without = rw e without
 -- and at the end
 module _ (rests : Rests) (db : model.Database) (name : List ℕ) (file : Option (List ℕ)) (old mid now new : Inputs) (reader : Reader) (opens : IsOpen reader name file mid now) (keeps : KeepsIds old mid) (most : ℕ) (some : 0 < most) where
   module _ (T : (Role → List ℕ) → Type 0) (P : Role → (Role → List ℕ) → Type 0) (F : (Role → List ℕ) → Type 0) where
-    done_of : (bytes : List ℕ) → IsBehindHeader reader now bytes → OutputsAre db most T P F Done reader now new
-        → ((capture.seen bytes most).end ≡ capture.Whole) × T (whole_texts db (capture.seen bytes most).packets)
+    done_of : (bytes : List ℕ) → IsBehindHeader reader now bytes → OutputsAre db serial_lines most T P F Done reader now new
+        → ((capture.seen bytes most).end ≡ capture.Whole) × T (whole_texts db serial_lines (capture.seen bytes most).packets)
     done_of bytes behind is =
-        let w = told_here (left reader now) (capture.cap bytes) (packets.IsWhole db most T P F) behind.sees is in
-        text_seen db T whole_texts bytes most w.packets capture.Whole (whole_seen rests bytes w.packets most some w.all w.few) w.text
+        let w = told_here (left reader now) (capture.cap bytes) (packets.IsWhole db serial_lines most T P F) behind.sees is in
+        text_seen T (whole_texts db serial_lines) bytes most w.packets capture.Whole (whole_seen rests bytes w.packets most some w.all w.few) w.text
 
-    broken_of : (offset code : ℕ) (bytes : List ℕ) → IsBehindHeader reader now bytes → OutputsAre db most T P F (Capture offset code) reader now new
-        → ((capture.seen bytes most).end ≡ capture.Broken offset code) × T (whole_texts db (capture.seen bytes most).packets)
+    broken_of : (offset code : ℕ) (bytes : List ℕ) → IsBehindHeader reader now bytes → OutputsAre db serial_lines most T P F (Capture offset code) reader now new
+        → ((capture.seen bytes most).end ≡ capture.Broken offset code) × T (whole_texts db serial_lines (capture.seen bytes most).packets)
     broken_of offset code bytes behind is =
-        let w = told_here (left reader now) (capture.cap bytes) (packets.IsBroken db most T P F offset code) behind.sees is in
-        text_seen db T whole_texts bytes most w.packets (capture.Broken offset code) (broken_seen rests bytes w.packets most offset code some w.all w.few) w.text
+        let w = told_here (left reader now) (capture.cap bytes) (packets.IsBroken db serial_lines most T P F offset code) behind.sees is in
+        text_seen T (whole_texts db serial_lines) bytes most w.packets (capture.Broken offset code) (broken_seen rests bytes w.packets most offset code some w.all w.few) w.text
 
-    limited_of : (max : ℕ) (bytes : List ℕ) → IsBehindHeader reader now bytes → OutputsAre db most T P F (PacketLimit max) reader now new
-        → (max ≡ most) × ((capture.seen bytes most).end ≡ capture.Limit) × T (whole_texts db (capture.seen bytes most).packets)
+    limited_of : (max : ℕ) (bytes : List ℕ) → IsBehindHeader reader now bytes → OutputsAre db serial_lines most T P F (PacketLimit max) reader now new
+        → (max ≡ most) × ((capture.seen bytes most).end ≡ capture.Limit) × T (whole_texts db serial_lines (capture.seen bytes most).packets)
     limited_of max bytes behind is =
-        let w = told_here (left reader now) (capture.cap bytes) (packets.IsLimited db most T P F max) behind.sees is in
-        let so = text_seen db T whole_texts bytes most w.packets capture.Limit (limit_seen rests bytes w.packets w.rest most some w.all w.more w.reached) w.text in
+        let w = told_here (left reader now) (capture.cap bytes) (packets.IsLimited db serial_lines most T P F max) behind.sees is in
+        let so = text_seen T (whole_texts db serial_lines) bytes most w.packets capture.Limit (limit_seen rests bytes w.packets w.rest most some w.all w.more w.reached) w.text in
         (w.told, so.0, so.1)
 
-    part_of : (role : Role) (bytes : List ℕ) → IsBehindHeader reader now bytes → OutputsAre db most T P F (Write role) reader now new → P role (whole_texts db (capture.seen bytes most).packets)
+    part_of : (role : Role) (bytes : List ℕ) → IsBehindHeader reader now bytes → OutputsAre db serial_lines most T P F (Write role) reader now new → P role (whole_texts db serial_lines (capture.seen bytes most).packets)
     part_of role bytes behind is =
-        subst (λ (l : List Packet). P role (whole_texts db l)) (seen_packets bytes most)
-        (told_here (left reader now) (capture.cap bytes) (λ s. P role (whole_texts db (take most s.packets))) behind.sees is)
+        subst (λ (l : List Packet). P role (whole_texts db serial_lines l)) (seen_packets bytes most)
+        (told_here (left reader now) (capture.cap bytes) (λ s. P role (whole_texts db serial_lines (take most s.packets))) behind.sees is)
 
-    some_of : (bytes : List ℕ) → IsBehindHeader reader now bytes → OutputsAre db most T P F NoMemory reader now new → F (whole_texts db (capture.seen bytes most).packets)
+    some_of : (bytes : List ℕ) → IsBehindHeader reader now bytes → OutputsAre db serial_lines most T P F NoMemory reader now new → F (whole_texts db serial_lines (capture.seen bytes most).packets)
     some_of bytes behind is =
-        subst (λ (l : List Packet). F (whole_texts db l)) (seen_packets bytes most)
-        (told_here (left reader now) (capture.cap bytes) (λ s. F (whole_texts db (take most s.packets))) behind.sees is)
+        subst (λ (l : List Packet). F (whole_texts db serial_lines l)) (seen_packets bytes most)
+        (told_here (left reader now) (capture.cap bytes) (λ s. F (whole_texts db serial_lines (take most s.packets))) behind.sees is)
 
     -- the bytes that were taken are the header and what was given behind it
-    cut_of : (Without : Type 0) (bytes : List ℕ) → IsBehindHeader reader now bytes → OutputsAre db most T P F (Read Cap) reader now new
-        → (given : List ℕ) × GaveOf name old new bytes given × ByHeader (capture.header given) Without (T (open_texts db (capture.cap given).packets))
+    cut_of : (Without : Type 0) (bytes : List ℕ) → IsBehindHeader reader now bytes → OutputsAre db serial_lines most T P F (Read Cap) reader now new
+        → (given : List ℕ) × GaveOf name old new bytes given × ByHeader (capture.header given) Without (T (open_texts db serial_lines (capture.cap given).packets))
     cut_of Without bytes behind is =
         let all = behind.head ++ is.given in
         let parts = front_of (now.held reader.id.0) behind.rest (new.held reader.id.0) is.given behind.holds is.gave.front in
@@ -141,8 +142,8 @@ module _ (rests : Rests) (db : model.Database) (name : List ℕ) (file : Option 
             holds = parts.1;
             parts = behind.parts ∙ ap (λ (l : List ℕ). behind.head ++ l) parts.2 ∙ sym (append_assoc behind.head is.given parts.0);
           },
-          with_header all reader.form Without (T (open_texts db (capture.cap all).packets)) stands.0
-              (subst (λ (s : capture.Seen). T (open_texts db s.packets)) (sym stands.1) is.text),
+          with_header all reader.form Without (T (open_texts db serial_lines (capture.cap all).packets)) stands.0
+              (subst (λ (s : capture.Seen). T (open_texts db serial_lines s.packets)) (sym stands.1) is.text),
         )
 
 no_name : IsSome {T = List ℕ} None → ⊥
@@ -173,14 +174,14 @@ module _ (rests : Rests) (files : DecodeFiles) (before after : Outside) (mid now
   fronts_of_none part text wrote = record { front = no_texts; back = text; parts = λ role. told_all (output_of part role) (λ name. text role ≡ text role) (λ name. refl); wrote = wrote }
 
   -- where memory was refused: while outputs were opened, or when all were
-  fronts_of : (bytes : List ℕ) → IsBehindHeader reader now bytes → NamedAre db files.max files.outputs NoMemory reader now after.inputs before.outputs after.outputs
-      → (next : Role) × WroteFronts (before_role next files.outputs) before.outputs after.outputs (whole_texts db (capture.seen bytes files.max).packets)
+  fronts_of : (bytes : List ℕ) → IsBehindHeader reader now bytes → NamedAre db serial_lines files.max files.outputs NoMemory reader now after.inputs before.outputs after.outputs
+      → (next : Role) × WroteFronts (before_role next files.outputs) before.outputs after.outputs (whole_texts db serial_lines (capture.seen bytes files.max).packets)
   fronts_of bytes behind is =
-      ⊎_elim (λ part. (part.0, fronts_of_none (before_role part.0 files.outputs) (whole_texts db (capture.seen bytes files.max).packets) part.1))
+      ⊎_elim (λ part. (part.0, fronts_of_none (before_role part.0 files.outputs) (whole_texts db serial_lines (capture.seen bytes files.max).packets) part.1))
       (λ front. (Out, some_of rests db files.cap (before.files files.cap) before.inputs mid now after.inputs reader opens keeps files.max some T P F bytes behind front)) is
 
   -- what a status says whose run came behind the header
-  pub says_decoded : (status : Status) → NamedAre db files.max files.outputs status reader now after.inputs before.outputs after.outputs → DecodeSays status files before after
+  pub says_decoded : (status : Status) → NamedAre db serial_lines files.max files.outputs status reader now after.inputs before.outputs after.outputs → DecodeSays status files before after
   says_decoded Done is =
       found (IsDone files before after) (λ bytes behind. done_of rests db files.cap (before.files files.cap) before.inputs mid now after.inputs reader opens keeps files.max some T P F bytes behind is)
   says_decoded (Words index code) is = absurd is
@@ -247,7 +248,7 @@ says_unopened rests (Read Cap) files before after mid faults db some database op
     let gave = took.1 in (
       took.0,
       record { id = gave.id; rest = gave.rest; fresh = keeps gave.id gave.fresh; named = gave.named; holds = gave.holds; parts = gave.parts },
-      without_header took.0 (capture.Broken 0 1) (WroteNothing before after) (WroteEach files.outputs before.outputs after.outputs (open_texts db (capture.cap took.0).packets)) (short_header took.0 took.2) same,
+      without_header took.0 (capture.Broken 0 1) (WroteNothing before after) (WroteEach files.outputs before.outputs after.outputs (open_texts db serial_lines (capture.cap took.0).packets)) (short_header took.0 took.2) same,
     )) opens)
 says_unopened rests (Read Pdml) files before after mid faults db some database opens keeps same cause = absurd cause
 says_unopened rests (Read Psml) files before after mid faults db some database opens keeps same cause = absurd cause
@@ -266,7 +267,7 @@ says_unopened rests NoMemory files before after mid faults db some database open
 says_unopened rests (Unbuilt which) files before after mid faults db some database opens keeps same cause = absurd cause
 
 -- what it says where there is no database to decode by
-pub says_unloaded : (status : Status) (files : DecodeFiles) (before after : Outside) → IfSome (before.files files.db) (DecoderIs (Err status)) → after.outputs ≡ before.outputs → HasDatabaseCause files.db before.faults after.faults status
+pub says_unloaded : (status : Status) (files : DecodeFiles) (before after : Outside) → IfSome (before.files files.db) (DatabaseIs (Err status)) → after.outputs ≡ before.outputs → HasDatabaseCause files.db before.faults after.faults status
     → DecodeSays status files before after
 says_unloaded Done files before after is same cause = absurd cause
 says_unloaded (Words index code) files before after is same cause = absurd cause

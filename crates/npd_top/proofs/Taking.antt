@@ -1,7 +1,13 @@
 -- What open outputs took: nothing, one piece after another, fronts of them.
-use Rattle.std.proofs.Common.{◌≡◌, ◌<◌, ℕ, List, [], ◌++◌, length, Option, Some, None, Result, Ok, Err, refl, sym, ap, ◌∙◌, subst, IfSome, append_assoc, append-nil, length-append, arith}
+use Rattle.std.proofs.Common.{◌≡◌, ◌<◌, ◌+◌, ℕ, List, [], ◌∷◌, ◌++◌, length, take, drop, get_or, Option, Some, None, Result, Ok, Err, refl, sym, ap, ◌∙◌, subst, IfSome, append_assoc, append-nil, length-append, arith}
 use Rattle.std.specs.Prelude.{IsSomeAnd}
+use Rattle.std.proofs.lemmas.Grind.{flat_map-append}
+use Rattle.std.proofs.lemmas.List.{take_more, take-append-drop}
 use Rattle.std.specs.Io.KnownBytes.{append_known}
+use Rattle.engine.specs.declared.ready.Ready.{Ready}
+use Rattle.engine.specs.declared.texts.Texts.{Texts}
+use Rattle.engine.specs.Texts.{text_if, Hold}
+use Rattle.engine.specs.Trace.{trace_line}
 use Rattle.npd_host.specs.declared.host.HostFail.{HostFail}
 use Rattle.npd_host.specs.declared.host.HostFail.TheVariants as host
 use Rattle.npd_host.specs.declared.host.OutId.{OutId}
@@ -11,10 +17,10 @@ use Rattle.npd_top.specs.declared.status.Role.{Role}
 use Rattle.npd_top.specs.declared.status.Role.TheVariants.{Db, Cap, Pdml, Psml, Trace, Out}
 use Rattle.npd_top.specs.declared.status.Status.{Status}
 use Rattle.npd_top.specs.declared.status.Status.TheVariants.{Done, Words, Open, Read, Write, Database, Capture, PacketLimit, NoMemory, Unbuilt}
-use Rattle.npd_top.specs.declared.texts.Texts.{Texts}
 use Rattle.npd_top.specs.Causes.{refusal}
 use Rattle.npd_top.specs.Outputs.{no_texts}
-use Rattle.npd_top.specs.Taken.{TookEach, TookFronts, TookParts, FailsTexts, TakesTexts, only, bytes_of, HasTexts}
+use Rattle.npd_top.specs.Ready.{ready_text, ready_texts}
+use Rattle.npd_top.specs.Taken.{TookEach, TookFronts, TookParts, FailsTexts, TakesTexts, only, pieces, is_there, wanted_of}
 use Rattle.npd_top.specs.Written.{sink_of, AreApart}
 use Rattle.npd_top.proofs.Told.{told_all, told_map, told_both, told_here, match_map, none_is_some}
 
@@ -79,9 +85,9 @@ module _ (sinks : Sinks) where
   fails_alike NoMemory r t xs ys same p = fronts_alike r t xs ys same p
   fails_alike (Unbuilt which) r t xs ys same p = absurd p
 
-  pub takes_alike : {A : Type 0} (result : Result A Status) (texts : Texts) (r t : Outputs) (ys : Role → List ℕ) → HasTexts sinks texts ys → TakesTexts result sinks r t (bytes_of texts) → TakesTexts result sinks r t ys
-  takes_alike (Ok done) texts r t ys same p = each_alike r t (bytes_of texts) ys same p
-  takes_alike (Err status) texts r t ys same p = fails_alike status r t (bytes_of texts) ys same p
+  pub takes_alike : {A : Type 0} (result : Result A Status) (r t : Outputs) (xs ys : Role → List ℕ) → ((role : Role) → IfSome (sink_of sinks role) (λ sink. xs role ≡ ys role)) → TakesTexts result sinks r t xs → TakesTexts result sinks r t ys
+  takes_alike (Ok done) r t xs ys same p = each_alike r t xs ys same p
+  takes_alike (Err status) r t xs ys same p = fails_alike status r t xs ys same p
 
   -- all of it is a front
   pub fronts_all : (r t : Outputs) (xs : Role → List ℕ) → TookEach sinks r t xs → TookFronts sinks r t xs
@@ -253,16 +259,90 @@ piece_refused sinks apart sink s t host.NoMemory role text e part = (one_part si
 -- ---- the pieces of all roles
 
 -- PDML, PSML and trace are all
-pub all_roles : (texts : Texts) (role : Role) → bytes_of texts role ≡ only Pdml (bytes_of texts) role ++ (only Psml (bytes_of texts) role ++ only Trace (bytes_of texts) role)
-all_roles texts Db = refl
-all_roles texts Cap = refl
-all_roles texts Pdml = sym (append-nil texts.pdml.items)
-all_roles texts Psml = sym (append-nil texts.psml.items)
-all_roles texts Trace = refl
-all_roles texts Out = refl
+pub all_pieces : (pdml psml trace : List ℕ) (role : Role) → pieces pdml psml trace role ≡ only Pdml (λ r. pdml) role ++ (only Psml (λ r. psml) role ++ only Trace (λ r. trace) role)
+all_pieces pdml psml trace Db = refl
+all_pieces pdml psml trace Cap = refl
+all_pieces pdml psml trace Pdml = sym (append-nil pdml)
+all_pieces pdml psml trace Psml = sym (append-nil psml)
+all_pieces pdml psml trace Trace = refl
+all_pieces pdml psml trace Out = refl
 
-pub last_role : (texts : Texts) (role : Role) → bytes_of texts role ≡ (only Pdml (bytes_of texts) role ++ only Psml (bytes_of texts) role) ++ (only Trace (bytes_of texts) role ++ [])
-last_role texts role = all_roles texts role ∙ regroup (only Pdml (bytes_of texts) role) (only Psml (bytes_of texts) role) (only Trace (bytes_of texts) role)
+pub last_piece : (pdml psml trace : List ℕ) (role : Role) → pieces pdml psml trace role ≡ (only Pdml (λ r. pdml) role ++ only Psml (λ r. psml) role) ++ (only Trace (λ r. trace) role ++ [])
+last_piece pdml psml trace role = all_pieces pdml psml trace role ∙ regroup (only Pdml (λ r. pdml) role) (only Psml (λ r. psml) role) (only Trace (λ r. trace) role)
   where
     regroup : (a b c : List ℕ) → a ++ (b ++ c) ≡ (a ++ b) ++ (c ++ [])
     regroup a b c = sym (append_assoc a b c) ∙ ap (λ (l : List ℕ). (a ++ b) ++ l) (sym (append-nil c))
+
+-- the same pieces in other words
+pub takes_pieces : {A : Type 0} (sinks : Sinks) (result : Result A Status) (r t : Outputs) (a b c x y z : List ℕ) → a ≡ x → b ≡ y → c ≡ z → TakesTexts result sinks r t (pieces a b c) → TakesTexts result sinks r t (pieces x y z)
+takes_pieces sinks result r t a b c x y z e f g took =
+    let P : List ℕ → List ℕ → List ℕ → Type 0 = λ k l m. TakesTexts result sinks r t (pieces k l m) in
+    subst (λ (m : List ℕ). P x y m) g (subst (λ (l : List ℕ). P x l c) f (subst (λ (k : List ℕ). P k b c) e took))
+
+-- of the outputs that are there the texts that are wanted are these, where the trace has none
+module _ (sinks : Sinks) (texts : Texts) (text : Role → List ℕ) (hold : Hold (wanted_of sinks) texts (text Pdml) (text Psml)) (none : [] ≡ text Trace) where
+  there : (sink : Option OutId) (of : List ℕ) → IfSome sink (λ k. text_if (is_there sink) of ≡ of)
+  there None of = tt
+  there (Some k) of = refl
+
+  pub wanted_alike : (role : Role) → IfSome (sink_of sinks role) (λ k. pieces texts.pdml.items texts.psml.items [] role ≡ text role)
+  wanted_alike Db = tt
+  wanted_alike Cap = tt
+  wanted_alike Out = tt
+  wanted_alike Pdml = told_map sinks.pdml (λ k. text_if (is_there sinks.pdml) (text Pdml) ≡ text Pdml) (λ k. texts.pdml.items ≡ text Pdml) (λ k e. hold.pdml ∙ e) (there sinks.pdml (text Pdml))
+  wanted_alike Psml = told_map sinks.psml (λ k. text_if (is_there sinks.psml) (text Psml) ≡ text Psml) (λ k. texts.psml.items ≡ text Psml) (λ k e. hold.psml ∙ e) (there sinks.psml (text Psml))
+  wanted_alike Trace = told_all sinks.trace (λ k. [] ≡ text Trace) (λ k. none)
+
+-- ---- the texts of packets that are settled
+
+-- the piece of the trace is the line, where the trace is named
+pub line_alike : (sinks : Sinks) (pdml psml line own : List ℕ) → IfSome sinks.trace (λ sink. line ≡ own) → (role : Role) → IfSome (sink_of sinks role) (λ sink. pieces pdml psml line role ≡ pieces pdml psml own role)
+line_alike sinks pdml psml line own e Db = tt
+line_alike sinks pdml psml line own e Cap = tt
+line_alike sinks pdml psml line own e Pdml = told_all sinks.pdml (λ sink. pdml ≡ pdml) (λ sink. refl)
+line_alike sinks pdml psml line own e Psml = told_all sinks.psml (λ sink. psml ≡ psml) (λ sink. refl)
+line_alike sinks pdml psml line own e Trace = e
+line_alike sinks pdml psml line own e Out = tt
+
+-- the texts of the first packets, of one and of the others
+pub ready_parts : (first others : List Ready) (one : Ready) (role : Role) → ready_texts (first ++ one ∷ others) role ≡ ready_texts first role ++ (ready_text one role ++ ready_texts others role)
+ready_parts first others one Db = refl
+ready_parts first others one Cap = refl
+ready_parts first others one Pdml = flat_map-append (λ (y : Ready). y.texts.pdml.items) first (one ∷ others)
+ready_parts first others one Psml = flat_map-append (λ (y : Ready). y.texts.psml.items) first (one ∷ others)
+ready_parts first others one Trace = flat_map-append (λ (y : Ready). trace_line y.receipt) first (one ∷ others)
+ready_parts first others one Out = refl
+
+ready_more : (first : List Ready) (one : Ready) (role : Role) → ready_texts first role ++ ready_text one role ≡ ready_texts (first ++ one ∷ []) role
+ready_more first one role = sym (ready_parts first [] one role ∙ ap (λ (l : List ℕ). ready_texts first role ++ l) (behind role))
+  where
+    behind : (role : Role) → ready_text one role ++ ready_texts [] role ≡ ready_text one role
+    behind Db = refl
+    behind Cap = refl
+    behind Pdml = append-nil one.texts.pdml.items
+    behind Psml = append-nil one.texts.psml.items
+    behind Trace = append-nil (trace_line one.receipt)
+    behind Out = refl
+
+-- the packets are the first ones, one and the others
+parts_at : (ready : List Ready) (i : ℕ) (one : Ready) → i < length ready → one ≡ get_or ready i one → ready ≡ take i ready ++ one ∷ drop (i + 1) ready
+parts_at ready i one within is =
+    sym (take-append-drop (i + 1) ready)
+    ∙ ap (λ (l : List Ready). l ++ drop (i + 1) ready) (take_more ready i one within ∙ ap (λ (y : Ready). take i ready ++ y ∷ []) (sym is))
+    ∙ append_assoc (take i ready) (one ∷ []) (drop (i + 1) ready)
+
+module _ (sinks : Sinks) (ready : List Ready) (i : ℕ) (one : Ready) (within : i < length ready) (is : one ≡ get_or ready i one) (r s t : Outputs) (took : TookEach sinks r s (ready_texts (take i ready))) where
+  -- one packet more was written
+  pub ready_took : TookEach sinks s t (ready_text one) → TookEach sinks r t (ready_texts (take (i + 1) ready))
+  ready_took next =
+      let so : take (i + 1) ready ≡ take i ready ++ one ∷ [] = take_more ready i one within ∙ ap (λ (y : Ready). take i ready ++ y ∷ []) (sym is) in
+      subst (λ (l : List Ready). TookEach sinks r t (ready_texts l)) (sym so)
+      (each_alike sinks r t (λ role. ready_texts (take i ready) role ++ ready_text one role) (ready_texts (take i ready ++ one ∷ []))
+      (λ role. told_all (sink_of sinks role) (λ sink. ready_texts (take i ready) role ++ ready_text one role ≡ ready_texts (take i ready ++ one ∷ []) role) (λ sink. ready_more (take i ready) one role))
+      (each_then sinks r s t (ready_texts (take i ready)) (ready_text one) took next))
+
+  -- the writing of one gave up
+  pub ready_failed : (status : Status) → FailsTexts status sinks s t (ready_text one) → FailsTexts status sinks r t (ready_texts ready)
+  ready_failed status fails =
+      fails_then sinks status r s t (ready_texts (take i ready)) (ready_text one) (ready_texts (drop (i + 1) ready)) (ready_texts ready) took fails
+      (λ role. ap (λ (l : List Ready). ready_texts l role) (parts_at ready i one within is) ∙ ready_parts (take i ready) (drop (i + 1) ready) one role)

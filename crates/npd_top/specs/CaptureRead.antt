@@ -68,12 +68,13 @@ FollowingIs (Ok (Packet packet)) left seen = (rest : Seen) × (left ≡ Some res
 FollowingIs (Ok (End status)) left seen = ClosesWith status seen
 FollowingIs (Err why) left seen = Unit {0}
 
--- the bytes of the packet's record were taken; on a read fault fewer than a record has
-abbrev pub FollowingTakes : Result Following Status → Form → ℕ → List ℕ → Type 0
-FollowingTakes (Ok (Packet packet)) form number bytes = record_at form number bytes ≡ One packet []
-FollowingTakes (Ok (End status)) form number bytes = IsCaptureEnd status
-FollowingTakes (Err (Read Cap)) form number bytes = length bytes < record_length form bytes
-FollowingTakes (Err other) form number bytes = Unit {0}
+-- what was kept and is taken: the bytes of the packet's record, and behind it what is kept now; on a read fault fewer
+-- than a record has
+abbrev pub FollowingTakes : Result Following Status → Form → ℕ → List ℕ → List ℕ → Type 0
+FollowingTakes (Ok (Packet packet)) form number bytes kept = record_at form number bytes ≡ One packet kept
+FollowingTakes (Ok (End status)) form number bytes kept = IsCaptureEnd status
+FollowingTakes (Err (Read Cap)) form number bytes kept = length bytes < record_length form bytes
+FollowingTakes (Err other) form number bytes kept = Unit {0}
 
 abbrev pub IsStamped : ℕ → Following → Type 0
 IsStamped most (Packet packet) = packet.stamp < most
@@ -81,7 +82,7 @@ IsStamped most (End status) = Unit {0}
 
 -- the reader stands behind the packet
 abbrev pub BehindPacket : Result Following Status → Reader → Reader → Type 0
-BehindPacket (Ok (Packet packet)) old new = new ≡ record (moved_by packet old) { kept = []; state = state.Reading }
+BehindPacket (Ok (Packet packet)) old new = new ≡ record (moved_by packet old) { kept = new.kept; state = state.Reading }
 BehindPacket (Ok (End status)) old new = Unit {0}
 BehindPacket (Err why) old new = Unit {0}
 
@@ -93,11 +94,11 @@ LimitIs most (Ok Done) seen = seen ≡ whole_end
 LimitIs most (Ok (PacketLimit max)) seen = (seen ≡ whole_end → ⊥) × (max ≡ most)
 LimitIs most other seen = Unit {0}
 
--- on a read fault nothing was taken
-abbrev pub LimitTakes : Result Status Status → List ℕ → Type 0
-LimitTakes (Ok Done) bytes = Unit {0}
-LimitTakes (Ok (PacketLimit max)) bytes = Unit {0}
-LimitTakes (Ok other) bytes = ⊥
-LimitTakes (Err (Read Cap)) bytes = bytes ≡ []
-LimitTakes (Err NoMemory) bytes = Unit {0}
-LimitTakes (Err other) bytes = ⊥
+-- on a read fault nothing was kept and nothing taken
+abbrev pub LimitTakes : ℕ → Result Status Status → List ℕ → Type 0
+LimitTakes most (Ok Done) bytes = Unit {0}
+LimitTakes most (Ok (PacketLimit max)) bytes = max ≡ most
+LimitTakes most (Ok other) bytes = ⊥
+LimitTakes most (Err (Read Cap)) bytes = bytes ≡ []
+LimitTakes most (Err NoMemory) bytes = Unit {0}
+LimitTakes most (Err other) bytes = ⊥

@@ -1,4 +1,4 @@
--- What the decoding of a capture comes to, by a decoder that decoded nothing yet.
+-- What the decoding of a capture comes to.
 use Rattle.std.specs.Prelude.{◌≡◌, ◌⊎◌, ℕ, List, [], ◌∷◌, ◌++◌, Some, Err}
 use Rattle.db_model.specs.declared.database.Database as model
 use Rattle.npd_host.specs.declared.host.CallKind.{CallKind}
@@ -11,6 +11,7 @@ use Rattle.npd_top.specs.Causes.{HasCaptureCause, HasOutputsCause}
 use Rattle.npd_top.specs.Jobs.{output_of}
 use Rattle.npd_top.specs.Outside.{Outside, OpensOne}
 use Rattle.npd_top.specs.Packets.{NamedAre, OpensNames}
+use Rattle.npd_top.specs.Serial.{serial_lines}
 
 -- the capture was not opened, or it has no header
 pub record StaysClosed (status : Status) (files : DecodeFiles) (before after : Outside) : Type 0 where
@@ -27,7 +28,7 @@ pub record IsDecoded (status : Status) (files : DecodeFiles) (db : model.Databas
   pub opens : IsOpen reader files.cap (before.files files.cap) before.inputs inputs
   pub opened : after.inputs.opened ≡ before.inputs.opened ++ files.cap ∷ []
   pub later : NoneFalls before.faults faults
-  pub named : NamedAre db files.max files.outputs status reader inputs after.inputs before.outputs after.outputs
+  pub named : NamedAre db serial_lines files.max files.outputs status reader inputs after.inputs before.outputs after.outputs
   pub names : OpensNames status files.outputs before.outputs.opened after.outputs.opened
   pub cause : HasOutputsCause (Some files.cap) (output_of files.outputs) faults after.faults status
 

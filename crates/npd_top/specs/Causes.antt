@@ -1,5 +1,5 @@
 -- Which status a part of a run gives up with, and which count of faults rose for it.
-use Rattle.std.specs.Prelude.{◌≡◌, ℕ, List, Option, IsSomeAnd}
+use Rattle.std.specs.Prelude.{◌≡◌, ℕ, List, Option, Result, Ok, Err, IsSomeAnd}
 use Rattle.db_model.specs.declared.fault.DbFail.{DbFail}
 use Rattle.db_model.specs.declared.fault.DbFail.TheVariants as database
 use Rattle.npd_host.specs.declared.host.CallKind.{CallKind}
@@ -9,6 +9,8 @@ use Rattle.npd_host.specs.declared.host.HostFail.TheVariants as host
 use Rattle.npd_host.specs.Host.{Rose, RoseAt}
 use Rattle.pcap_in.specs.declared.fail.CapFail.{CapFail}
 use Rattle.pcap_in.specs.declared.fail.CapFail.TheVariants as fail
+use Rattle.npd_top.specs.declared.reading.Noted.{Noted}
+use Rattle.npd_top.specs.declared.reading.Noted.TheVariants.{Fails}
 use Rattle.npd_top.specs.declared.status.Role.{Role}
 use Rattle.npd_top.specs.declared.status.Role.TheVariants.{Db, Cap, Out}
 use Rattle.npd_top.specs.declared.status.Status.{Status}
@@ -66,6 +68,11 @@ HasReadCause name before now (Read Cap) = RoseOnId call.Read name before now
 HasReadCause name before now NoMemory = Unit {0}
 HasReadCause name before now other = ⊥
 
+-- packets of an open capture are read until that is noted
+abbrev pub HasNotedCause : Option (List ℕ) → (CallKind → List ℕ → ℕ) → (CallKind → List ℕ → ℕ) → Noted → Type 0
+HasNotedCause name before now (Fails status) = HasReadCause name before now status
+HasNotedCause name before now other = Unit {0}
+
 -- a capture is opened, and its file header is read
 abbrev pub HasCaptureCause : List ℕ → (CallKind → List ℕ → ℕ) → (CallKind → List ℕ → ℕ) → Status → Type 0
 HasCaptureCause name before now (Open Cap) = RoseOn call.OpenIn name before now
@@ -79,6 +86,11 @@ abbrev pub HasWriteCause : (Role → Option (List ℕ)) → (CallKind → List �
 HasWriteCause names before now (Write role) = RoseIn call.Write (names role) before now
 HasWriteCause names before now NoMemory = Unit {0}
 HasWriteCause names before now other = ⊥
+
+-- a window of packets of an open capture is read and written to open outputs
+abbrev pub HasWindowCause : Option (List ℕ) → (Role → Option (List ℕ)) → (CallKind → List ℕ → ℕ) → (CallKind → List ℕ → ℕ) → Result Noted Status → Type 0
+HasWindowCause cap names before now (Ok noted) = HasNotedCause cap before now noted
+HasWindowCause cap names before now (Err status) = HasWriteCause names before now status
 
 -- the packets of an open capture are read and written to open outputs
 abbrev pub HasPacketsCause : Option (List ℕ) → (Role → Option (List ℕ)) → (CallKind → List ℕ → ℕ) → (CallKind → List ℕ → ℕ) → Status → Type 0

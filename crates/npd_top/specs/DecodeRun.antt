@@ -14,6 +14,7 @@ use Rattle.npd_top.specs.Accepted.{IsRefused, HasAccepted}
 use Rattle.npd_top.specs.Jobs.{output_of}
 use Rattle.npd_top.specs.Outputs.{open_texts, whole_texts, no_texts}
 use Rattle.npd_top.specs.Outside.{Outside, Opened, WroteNothing}
+use Rattle.npd_top.specs.Serial.{serial_lines}
 use Rattle.npd_top.specs.Written.{WroteEach, WroteFronts, WrotePart, before_role, names_of}
 
 -- the packets of a capture, at most so many, and how what is seen of it ends then
@@ -52,7 +53,7 @@ Finds files before Holds =
 module _ (files : DecodeFiles) (before after : Outside) where
   -- each output is whole, with so many packets of these bytes as are read
   abbrev pub AreWhole : model.Database → List ℕ → Type 0
-  AreWhole db bytes = WroteEach files.outputs before.outputs after.outputs (whole_texts db (packets_in files.max bytes))
+  AreWhole db bytes = WroteEach files.outputs before.outputs after.outputs (whole_texts db serial_lines (packets_in files.max bytes))
 
   -- the capture is read to its end, and the outputs are whole
   abbrev pub IsDone : model.Database → List ℕ → Type 0
@@ -73,18 +74,18 @@ module _ (files : DecodeFiles) (before after : Outside) where
   IsCut db bytes =
       (given : List ℕ) × GaveOf files.cap before.inputs after.inputs bytes given
       × ByHeader (capture.header given) (WroteNothing before after)
-      (WroteEach files.outputs before.outputs after.outputs (open_texts db (capture.cap given).packets))
+      (WroteEach files.outputs before.outputs after.outputs (open_texts db serial_lines (capture.cap given).packets))
 
   -- each output has taken a front of its whole text, and that of this role, which is one of them, a proper one
   abbrev pub HasProperFront : Role → model.Database → List ℕ → Type 0
   HasProperFront role db bytes =
-      IsHeader (capture.header bytes) × WrotePart role files.outputs before.outputs after.outputs (whole_texts db (packets_in files.max bytes))
+      IsHeader (capture.header bytes) × WrotePart role files.outputs before.outputs after.outputs (whole_texts db serial_lines (packets_in files.max bytes))
 
   -- the outputs before that of some role are opened, and each has taken a front of its whole text
   abbrev pub HasFront : model.Database → List ℕ → Type 0
   HasFront db bytes =
       IsHeader (capture.header bytes)
-      × (next : Role) × WroteFronts (before_role next files.outputs) before.outputs after.outputs (whole_texts db (packets_in files.max bytes))
+      × (next : Role) × WroteFronts (before_role next files.outputs) before.outputs after.outputs (whole_texts db serial_lines (packets_in files.max bytes))
 
   -- the outputs before that of this role, which is one of them, are opened, and nothing is written
   abbrev pub IsUnopened : Role → Type 0

@@ -10,17 +10,17 @@ use Rattle.npd_top.specs.declared.status.Role.{Role}
 use Rattle.npd_top.specs.declared.status.Role.TheVariants.{Pdml, Psml, Trace}
 
 -- the job that a plan is; none yet, where it names a report or asks for a capture to be made. The serial run has no
--- workers, and windows of packets change nothing
+-- workers
 abbrev pub job_of : Plan → Option Job
 job_of (plan.Decode db cap pdml psml trace None workers window max) =
-    Some (Decode (record { db = db; cap = cap; outputs = record { pdml = pdml; psml = psml; trace = trace }; max = max }))
+    Some (Decode (record { db = db; cap = cap; outputs = record { pdml = pdml; psml = psml; trace = trace }; window = window; max = max }))
 job_of (plan.Decode db cap pdml psml trace (Some report) workers window max) = None
 job_of (plan.Check db) = Some (Check (record { db = db }))
 job_of (plan.Gen seed packets workers window) = None
 
--- at least one packet may be read
+-- at least one packet may be read, and at least one in a window
 abbrev pub ReadsSome : Job → Type 0
-ReadsSome (Decode files) = 1 ≤ files.max
+ReadsSome (Decode files) = (1 ≤ files.max) × (1 ≤ files.window)
 ReadsSome (Check files) = Unit {0}
 
 -- these words ask for this job

@@ -1,7 +1,6 @@
 -- What the loading of a database file finds.
 use Rattle.std.specs.Prelude.{◌≡◌, ℕ, List, Result, Ok, Err}
 use Rattle.db_model.specs.declared.database.Database as model
-use Rattle.npd_top.specs.declared.decoder.Decoder.{Decoder}
 use Rattle.npd_top.specs.declared.status.Status.{Status}
 use Rattle.npd_top.specs.declared.status.Status.TheVariants.{Database}
 use Rattle.npd_top.specs.declared.totals.Totals.{Totals}
@@ -13,12 +12,6 @@ abbrev pub DatabaseIs : Result model.Database Status → List ℕ → Type 0
 DatabaseIs (Ok db) text = IsAccepted text db
 DatabaseIs (Err (Database line code)) text = IsRefused text line code
 DatabaseIs (Err other) text = Unit {0}
-
--- the same, where a decoder is made of the database
-abbrev pub DecoderIs : Result Decoder Status → List ℕ → Type 0
-DecoderIs (Ok decoder) text = IsAccepted text decoder.engine.db
-DecoderIs (Err (Database line code)) text = IsRefused text line code
-DecoderIs (Err other) text = Unit {0}
 
 -- the same, where it is counted what the database declares
 abbrev pub TotalsAre : Result Totals Status → List ℕ → Type 0

@@ -1,6 +1,7 @@
 -- What open outputs take of the texts of their roles, and how they are opened.
-use Rattle.std.specs.Prelude.{◌≡◌, ◌<◌, ℕ, List, [], ◌++◌, length, Option, Some, None, Result, Ok, Err, IfSome, IsSome, IsSomeAnd}
+use Rattle.std.specs.Prelude.{◌≡◌, ◌<◌, ℕ, Bool, true, false, List, [], ◌++◌, length, Option, Some, None, Result, Ok, Err, IfSome, IsSome, IsSomeAnd}
 use Rattle.std.specs.Io.KnownBytes.{append_known}
+use Rattle.engine.specs.declared.texts.Wanted.{Wanted}
 use Rattle.npd_host.specs.declared.host.OutId.{OutId}
 use Rattle.npd_host.specs.Host.{Inputs, Outputs, Gave, OpensOutput}
 use Rattle.npd_top.specs.declared.job.OutputFiles.{OutputFiles}
@@ -9,7 +10,6 @@ use Rattle.npd_top.specs.declared.status.Role.{Role}
 use Rattle.npd_top.specs.declared.status.Role.TheVariants.{Pdml, Psml, Trace}
 use Rattle.npd_top.specs.declared.status.Status.{Status}
 use Rattle.npd_top.specs.declared.status.Status.TheVariants.{Open, Write, NoMemory}
-use Rattle.npd_top.specs.declared.texts.Texts.{Texts}
 use Rattle.npd_top.specs.Jobs.{output_of}
 use Rattle.npd_top.specs.Outputs.{no_texts}
 use Rattle.npd_top.specs.Written.{sink_of, IsNoSink, BegunEach, WroteEach, before_role}
@@ -71,16 +71,20 @@ pub record GaveSome (id : ℕ) (old new : Inputs) : Type 0 where
 
 -- ---- the texts
 
--- the bytes of a role in a set of buffers
-abbrev pub bytes_of : Texts → Role → List ℕ
-bytes_of texts Pdml = texts.pdml.items
-bytes_of texts Psml = texts.psml.items
-bytes_of texts Trace = texts.trace.items
-bytes_of texts other = []
+-- a piece for each output, by its role
+abbrev pub pieces : List ℕ → List ℕ → List ℕ → Role → List ℕ
+pieces pdml psml trace Pdml = pdml
+pieces pdml psml trace Psml = psml
+pieces pdml psml trace Trace = trace
+pieces pdml psml trace other = []
 
--- of each role that has an output they are this text
-abbrev pub HasTexts : Sinks → Texts → (Role → List ℕ) → Type 0
-HasTexts sinks texts text = (role : Role) → IfSome (sink_of sinks role) (λ sink. bytes_of texts role ≡ text role)
+-- which texts of packets are wanted: those of the outputs that are there
+abbrev pub is_there : Option OutId → Bool
+is_there None = false
+is_there (Some sink) = true
+
+abbrev pub wanted_of : Sinks → Wanted
+wanted_of sinks = record { pdml = is_there sinks.pdml; psml = is_there sinks.psml }
 
 -- ---- the opening
 

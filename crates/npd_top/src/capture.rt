@@ -59,7 +59,7 @@ pub fn next_packet<H: Host>(host: &mut H, reader: &mut CapReader) -> Result<Foll
     ensures follows { IfSome (left reader.old (H.inputs host.old))
         (FollowingIs result (left reader.new (H.inputs host.new))) }
     ensures takes { OnlyRead reader.old.id.0 (H.inputs host.old) (H.inputs host.new) (λ bytes.
-        FollowingTakes result reader.old.form reader.old.number (reader.old.kept ++ bytes)) }
+        FollowingTakes result reader.old.form reader.old.number (reader.old.kept ++ bytes) reader.new.kept) }
     ensures behind { BehindPacket result reader.old reader.new }
     ensures stamp { IfOk result (IsStamped STAMP_END) }
     ensures reach { InReach reader.new (H.inputs host.new) }
@@ -85,7 +85,8 @@ pub fn at_limit<H: Host>(host: &mut H, reader: &mut CapReader, most: u32) -> Res
     requires reach { InReach reader.old (H.inputs host.old) }
     ensures limit { IfSome (left reader.old (H.inputs host.old)) (LimitIs most result) }
     ensures takes { OnlyRead reader.old.id.0 (H.inputs host.old) (H.inputs host.new)
-        (LimitTakes result) }
+        (λ bytes. LimitTakes most result (reader.old.kept ++ bytes)) }
+    ensures reach { InReach reader.new (H.inputs host.new) }
     ensures frame { MovesInputsOnly H.outputs H.files H.faults host.old host.new }
     ensures cause { IfErr result (HasReadCause ((H.inputs host.old).name reader.old.id.0)
         (H.faults host.old) (H.faults host.new)) }

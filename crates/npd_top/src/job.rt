@@ -14,12 +14,13 @@ pub struct OutputFiles {
     pub trace: Option<Word>,
 }
 
-/// The files of a decode, and how many packets are read at most.
+/// The files of a decode, and how many packets are read at most: in a window, 1 to 256, and in all.
 #[derive(Drop)]
 pub struct DecodeFiles {
     pub db: Word,
     pub cap: Word,
     pub outputs: OutputFiles,
+    pub window: u32,
     pub max: u32,
 }
 
@@ -53,12 +54,13 @@ pub fn job_of(plan: Plan) -> Option<Job>
             trace,
             report: None,
             workers: _,
-            window: _,
+            window,
             max,
         } => Some(Job::Decode(DecodeFiles {
             db,
             cap,
             outputs: OutputFiles { pdml, psml, trace },
+            window,
             max,
         })),
         Plan::Decode {

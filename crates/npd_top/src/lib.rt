@@ -3,7 +3,6 @@
 #![tactic(auto)]
 
 mod capture;
-mod decoder;
 mod job;
 mod laws;
 mod limits;
@@ -11,10 +10,11 @@ mod line;
 mod load;
 mod output;
 mod packets;
+mod pipeline;
+mod reading;
 mod run;
 mod sinks;
 mod status;
-mod texts;
 mod totals;
 
 pub use job::{CheckFiles, DecodeFiles, Job, OutputFiles};

@@ -2,16 +2,15 @@ ghost use Rattle.std.specs.Prelude.{◌≡◌, ◌<◌, IfSome, IfErr, IfOk};
 ghost use Rattle.db_text.specs.declared.limits.TheConstants.{MOST_TEXT_BYTES};
 ghost use Rattle.npd_host.specs.Host.{MovesInputsOnly};
 ghost use Rattle.npd_top.specs.Causes.{fault_status, IsFault, HasTextCause, HasDatabaseCause};
-ghost use Rattle.npd_top.specs.Decoder.{IsNew};
-ghost use Rattle.npd_top.specs.Loaded.{DatabaseIs, DecoderIs, TotalsAre};
+ghost use Rattle.npd_top.specs.Loaded.{DatabaseIs, TotalsAre};
 ghost use Rattle.npd_top.specs.Outside.{OpensOne, KeepsIds, FrontOf};
 
-use crate::decoder::{Decoder, decoder_of, parts_of};
 use crate::status::{Role, Status, refused};
 use crate::totals::{Totals, totals_of};
 use db_check::check;
 use db_load::load_database;
 use db_model::{CheckedDb, DbFail};
+use engine::Engine;
 use npd_host::{Host, fill};
 use std::alloc::Global;
 
@@ -85,15 +84,14 @@ fn load<H: Host>(alloc: Global, host: &mut H, name: &str, most: usize) -> Result
 }
 
 /// The same as `load`, and makes what decodes by the database.
-pub fn load_decoder<H: Host>(
+pub fn load_engine<H: Host>(
     alloc: Global,
     host: &mut H,
     name: &str,
     most: usize,
-) -> Result<Decoder, Status>
+) -> Result<Engine, Status>
     requires { MOST_TEXT_BYTES < most }
-    ensures database { IfSome (H.files host.old name.now) (DecoderIs result) }
-    ensures new { IfOk result IsNew }
+    ensures database { IfSome (H.files host.old name.now) (DatabaseIs result) }
     ensures opens { OpensOne name.now (H.inputs host.old).opened (H.inputs host.new).opened result }
     ensures keeps { KeepsIds (H.inputs host.old) (H.inputs host.new) }
     ensures frame { MovesInputsOnly H.outputs H.files H.faults host.old host.new }
@@ -103,12 +101,9 @@ pub fn load_decoder<H: Host>(
         Ok(db) => db,
         Err(status) => return Err(status),
     };
-    match parts_of(alloc, &db) {
-        Ok(parts) => Ok(decoder_of(db, parts)),
-        Err(_) => {
-            db.discard();
-            Err(Status::NoMemory)
-        }
+    match Engine::of(alloc, db) {
+        Ok(engine) => Ok(engine),
+        Err(_) => Err(Status::NoMemory),
     }
 }
 

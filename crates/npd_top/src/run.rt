@@ -2,36 +2,34 @@ ghost use Rattle.std.specs.Prelude.{◌≡◌, ◌<◌, ◌≤◌, ◌^◌, leng
 ghost use Rattle.npd_host.specs.Host.{NoneFalls};
 ghost use Rattle.npd_top.specs.CaptureRun.{CaptureRuns};
 ghost use Rattle.npd_top.specs.CheckRun.{CheckSays, CheckOpens};
-ghost use Rattle.npd_top.specs.Decoder.{IsNew};
 ghost use Rattle.npd_top.specs.DecodeRun.{DecodeSays, DecodeOpens};
 ghost use Rattle.npd_top.specs.Outside.{seen};
 ghost use Rattle.npd_top.specs.Jobs.{ReadsSome};
 ghost use Rattle.npd_top.specs.Run.{HasCause, Means, Opens, Says, WhereUntouched};
 
 use crate::capture::open_capture;
-use crate::decoder::Decoder;
 use crate::job::{CheckFiles, DecodeFiles, Job, job_of};
 use crate::limits::MOST_DATABASE;
-use crate::load::{load_decoder, load_totals};
+use crate::load::{load_engine, load_totals};
 use crate::output::write_line;
 use crate::packets::write_named;
 use crate::status::{Part, Status};
 use crate::totals::totals_line;
+use engine::Engine;
 use npd_host::Host;
 use npd_words::{WordsFail, read_words};
 use pcap_in::laws::{fronts_tell, seen_is_read};
 use std::alloc::Global;
 
-/// Opens the capture and the outputs, and writes the texts of one packet after another.
+/// Opens the capture and the outputs, and writes the texts of the packets.
 fn decode_capture<H: Host>(
     alloc: Global,
     host: &mut H,
     files: &DecodeFiles,
-    decoder: &mut Decoder,
+    engine: &Engine,
 ) -> Status
-    requires { IsNew decoder.old }
-    ensures runs { CaptureRuns result files.now decoder.old.engine.db
-        (seen H.Host host.old) (seen H.Host host.new) }
+    requires { 0 < files.now.window }
+    ensures runs { CaptureRuns result files.now engine.now (seen H.Host host.old) (seen H.Host host.new) }
     ensures files { H.files host.new ≡ H.files host.old }
     ensures later { NoneFalls (H.faults host.old) (H.faults host.new) }
 {
@@ -39,20 +37,12 @@ fn decode_capture<H: Host>(
         Ok(reader) => reader,
         Err(status) => return status,
     };
-    write_named(
-        alloc,
-        host,
-        reader,
-        &files.outputs,
-        &decoder.engine,
-        &mut decoder.session,
-        files.max,
-    )
+    write_named(alloc, host, reader, files, engine)
 }
 
 /// Loads the database, and decodes the capture by it.
 fn run_decode<H: Host>(alloc: Global, host: &mut H, files: &DecodeFiles) -> Status
-    requires some { 1 ≤ files.now.max }
+    requires { ReadsSome (Job.Decode files.now) }
     ensures opens { DecodeOpens result files.now (seen H.Host host.old) (seen H.Host host.new) }
     ensures says { DecodeSays result files.now (seen H.Host host.old) (seen H.Host host.new) }
     ensures cause { HasCause result (Job.Decode files.now)
@@ -63,12 +53,12 @@ fn run_decode<H: Host>(alloc: Global, host: &mut H, files: &DecodeFiles) -> Stat
     seen_is_read();
     fronts_tell();
     // One byte more than a database has, so that a longer text is seen.
-    let mut decoder = match load_decoder(alloc, host, files.db.as_str(), MOST_DATABASE + 1) {
-        Ok(decoder) => decoder,
+    let engine = match load_engine(alloc, host, files.db.as_str(), MOST_DATABASE + 1) {
+        Ok(engine) => engine,
         Err(status) => return status,
     };
-    let status = decode_capture(alloc, host, files, &mut decoder);
-    decoder.discard();
+    let status = decode_capture(alloc, host, files, &engine);
+    engine.discard();
     status
 }
 
@@ -114,9 +104,9 @@ fn run_job<H: Host>(alloc: Global, host: &mut H, job: &Job) -> Status
 /// Serves command words on a host. It always returns.
 ///
 /// `decode --db D --cap C` reads the database file D and the capture C, and decodes the packets one by one, in order, at
-/// most as many as `--max-packets` says. It writes what is named of: to `--pdml P` their PDML, to `--psml S` their PSML,
-/// and to `--trace T` a line for each. `check --db D` loads and checks the database file D, and writes to standard
-/// output how much it declares.
+/// most as many as `--max-packets` says, by windows of at most as many as `--window` says. It writes what is named of:
+/// to `--pdml P` their PDML, to `--psml S` their PSML, and to `--trace T` a line for each. `check --db D` loads and
+/// checks the database file D, and writes to standard output how much it declares.
 ///
 /// The status says how it ended. `Means` is what each status promises, for every list of words, every host,
 /// every told input and every list of failing calls: which status comes exactly where, which only where the

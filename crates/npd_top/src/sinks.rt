@@ -2,12 +2,13 @@ ghost use Rattle.std.specs.Prelude.{◌≡◌, IfErr};
 ghost use Rattle.npd_host.specs.Host.{MovesOutputsOnly};
 ghost use Rattle.npd_top.specs.Causes.{HasOpenCause, HasNamedCause};
 ghost use Rattle.npd_top.specs.Jobs.{output_of};
-ghost use Rattle.npd_top.specs.Taken.{OpensNamed, OpensOutputs};
+ghost use Rattle.npd_top.specs.Taken.{wanted_of, OpensNamed, OpensOutputs};
 ghost use Rattle.npd_top.specs.Written.{sink_of};
 
 use crate::job::OutputFiles;
 use crate::status::{Role, Status, refused};
 use db_model::Word;
+use engine::Wanted;
 use npd_host::{Host, OutId};
 
 /// The open outputs of packets. None: it isn't named.
@@ -28,6 +29,16 @@ impl Sinks {
             Role::Psml => self.psml,
             Role::Trace => self.trace,
             Role::Db | Role::Cap | Role::Out => None,
+        }
+    }
+
+    /// Which texts of packets are wanted: those of the outputs that are there.
+    pub fn wanted(self) -> Wanted
+        ensures { result ≡ wanted_of self }
+    {
+        Wanted {
+            pdml: self.pdml.is_some(),
+            psml: self.psml.is_some(),
         }
     }
 }

@@ -78,7 +78,8 @@ pub fn judged<'a>(
     name: &str,
     value: Option<&'a str>,
 ) -> Result<(OptionRow, &'a str), Cause>
-    ensures row { IfOk result (λ r. Options.judged rows.now given.now name.now (option_copied value.entry) ≡ Ok (r.0, r.1.now)) }
+    ensures row { IfOk result
+        (λ r. Options.judged rows.now given.now name.now (option_copied value.entry) ≡ Ok (r.0, r.1.now)) }
     ensures cause { IfErr result (λ c. Options.judged rows.now given.now name.now (option_copied value.entry) ≡ Err c) }
 {
     match row_of(rows, name) {

@@ -42,8 +42,10 @@ fn differing(
     requires fits { question_fits session.old.database pair.now.0 ≡ true }
     requires time { t < STAMP_END }
     ensures database { session.new.database ≡ session.old.database }
-    ensures content { OnOk result (session.new.content ≡ (ask session.old.database session.old.content pair.now.0 t).1) }
-    ensures answers { IfOk result (λ o. o ≡ unless_same pair.now.1 (ask session.old.database session.old.content pair.now.0 t).0) }
+    ensures content { OnOk result (session.new.content
+        ≡ (ask session.old.database session.old.content pair.now.0 t).1) }
+    ensures answers { IfOk result (λ o. o
+        ≡ unless_same pair.now.1 (ask session.old.database session.old.content pair.now.0 t).0) }
 {
     let (question, noted) = pair;
     let answer = session.ask(question, t)?;

@@ -114,7 +114,8 @@ fn looked_up(
     requires time { t < STAMP_END }
     ensures database { session.new.database ≡ session.old.database }
     ensures content { session.new.content ≡ session.old.content }
-    ensures answers { IfOk result (AreAnswers (ask session.old.database session.old.content (Look table keys.now false) t).0) }
+    ensures answers { IfOk result (AreAnswers (ask session.old.database session.old.content
+        (Look table keys.now false) t).0) }
 {
     let question = copies::plain_look(table, keys)?;
     let answer = session.ask(&question, t)?;

@@ -1,6 +1,6 @@
 use db_model::{Bytes, CheckedDb, NoMemory, Node, Nodes, PAYLOAD, Packet, PacketTree, Proto};
-use psml_out::Summaries;
-use show::Labels;
+use psml_out::{Summaries, Summed};
+use show::{Labelled, Labels};
 use std::alloc::Global;
 use std::test::Fail;
 
@@ -66,7 +66,7 @@ fn pdml_of(
     tree: &PacketTree,
 ) -> Result<Vec<u8>, NoMemory> {
     let labels = Labels::of(alloc, db)?;
-    pdml_out::packet_text(alloc, db, &labels, packet, tree)
+    pdml_out::packet_text(alloc, &Labelled::of(db, &labels), packet, tree)
 }
 
 fn psml_of(
@@ -77,7 +77,8 @@ fn psml_of(
 ) -> Result<Vec<u8>, NoMemory> {
     let labels = Labels::of(alloc, db)?;
     let summaries = Summaries::of(alloc, db)?;
-    psml_out::packet_text(alloc, db, &labels, &summaries, packet, tree)
+    let db = Summed::of(Labelled::of(db, &labels), &summaries);
+    psml_out::packet_text(alloc, &db, packet, tree)
 }
 
 fn written_of(

@@ -68,12 +68,12 @@ Comes-refusal NoMemory None after = tt
 Comes-refusal NoMemory (Some s) after = tt
 
 -- it takes what the reading of the record took
-pub Takes-refusal : (refusal : HostFail) (form : Form) (number : ℕ) (bytes : List ℕ) → TakesRecord (Err refusal) form number bytes → Takes (Err (cap_fail_of refusal)) form number bytes
-Takes-refusal Failed form number bytes h = h
-Takes-refusal NoMemory form number bytes h = h
+pub Takes-refusal : (refusal : HostFail) (form : Form) (number : ℕ) (bytes kept : List ℕ) → TakesRecord (Err refusal) form number bytes → Takes (Err (cap_fail_of refusal)) form number bytes kept
+Takes-refusal Failed form number bytes kept h = h
+Takes-refusal NoMemory form number bytes kept h = h
 
 -- it leaves the reader unusable
-pub reader_after-refusal : (refusal : HostFail) (r : Reader) → record r { kept = []; state = state.Unusable } ≡ reader_after (Err (cap_fail_of refusal)) r
+pub reader_after-refusal : (refusal : HostFail) (r : Reader) → record r { kept = []; state = state.Unusable } ≡ reader_after (Err (cap_fail_of refusal)) r []
 reader_after-refusal Failed r = refl
 reader_after-refusal NoMemory r = refl
 

@@ -30,10 +30,15 @@ SeenIsRead = (b : List ℕ) (packets : List Packet) (rest : Seen) (most : ℕ)
 abbrev pub HeaderIsFront : Type 0
 HeaderIsFront = (form : Form) (head more : List ℕ) → length head ≡ 24 → header head ≡ Ok form → (header (head ++ more) ≡ Ok form) × (cap (head ++ more) ≡ records form 0 24 more)
 
--- a record at the front of some bytes is that record, and then come the records of the others
+-- a record at the front of some bytes is that record, whatever follows them, and then come the records of the bytes behind
+-- it
 abbrev pub RecordIsFront : Type 0
-RecordIsFront = (form : Form) (number offset : ℕ) (bytes more : List ℕ) (packet : Packet) → record_at form number bytes ≡ One packet []
-    → records form number offset (bytes ++ more) ≡ with_front (packet ∷ []) (records form (number + 1) (offset + record_size packet) more)
+RecordIsFront = (form : Form) (number offset : ℕ) (bytes rest more : List ℕ) (packet : Packet) → record_at form number bytes ≡ One packet rest
+    → records form number offset (bytes ++ more) ≡ with_front (packet ∷ []) (records form (number + 1) (offset + record_size packet) (rest ++ more))
+
+-- its packet has the number that it is read with
+abbrev pub RecordIsNumbered : Type 0
+RecordIsNumbered = (form : Form) (number : ℕ) (bytes rest : List ℕ) (packet : Packet) → record_at form number bytes ≡ One packet rest → packet.number ≡ number
 
 -- fewer bytes than the record that they begin have no packet
 abbrev pub PartHasNone : Type 0

@@ -96,14 +96,14 @@ Comes (Err (fail.Broken offset code)) s after = (s ≡ broken_end offset code) �
 Comes (Err fail.ReadFault) s after = Unit {0}
 Comes (Err fail.NoMemory) s after = Unit {0}
 
--- what is taken and was kept, at `next`: one packet's record, nothing at the end, or on a read fault less than a whole
--- record
-abbrev pub Takes : Result Next CapFail → Form → ℕ → List ℕ → Type 0
-Takes (Ok (next.Packet packet)) form number bytes = record_at form number bytes ≡ One packet []
-Takes (Ok next.End) form number bytes = bytes ≡ []
-Takes (Err (fail.Broken offset code)) form number bytes = Unit {0}
-Takes (Err fail.ReadFault) form number bytes = length bytes < record_length form bytes
-Takes (Err fail.NoMemory) form number bytes = Unit {0}
+-- what was kept and is taken, at `next`, and what is kept then: one packet's record, and behind it what is kept; nothing
+-- at the end; or on a read fault less than a whole record
+abbrev pub Takes : Result Next CapFail → Form → ℕ → List ℕ → List ℕ → Type 0
+Takes (Ok (next.Packet packet)) form number bytes kept = record_at form number bytes ≡ One packet kept
+Takes (Ok next.End) form number bytes kept = (bytes ≡ []) × (kept ≡ [])
+Takes (Err (fail.Broken offset code)) form number bytes kept = Unit {0}
+Takes (Err fail.ReadFault) form number bytes kept = length bytes < record_length form bytes
+Takes (Err fail.NoMemory) form number bytes kept = Unit {0}
 
 -- the reader behind a packet's record; number and offset stand still at the last value of a u64
 abbrev pub moved_by : Packet → Reader → Reader
@@ -115,9 +115,9 @@ moved_after (Ok (next.Packet packet)) r = moved_by packet r
 moved_after (Ok next.End) r = r
 moved_after (Err why) r = r
 
--- the reader after this answer of `next`
-abbrev pub reader_after : Result Next CapFail → Reader → Reader
-reader_after result r = record (moved_after result r) { kept = []; state = state_after result }
+-- the reader after this answer of `next`, with what it keeps then
+abbrev pub reader_after : Result Next CapFail → Reader → List ℕ → Reader
+reader_after result r kept = record (moved_after result r) { kept = kept; state = state_after result }
 
 -- a packet's stamp is below this
 abbrev pub IsStampedBelow : ℕ → Next → Type 0

@@ -1,5 +1,5 @@
 //! What the definition of a capture comes to.
-ghost use Rattle.pcap_in.specs.Laws.{RecordsAreSteps, EndsWithoutBytes, SeenIsRead, HeaderIsFront, RecordIsFront, PartHasNone};
+ghost use Rattle.pcap_in.specs.Laws.{RecordsAreSteps, EndsWithoutBytes, SeenIsRead, HeaderIsFront, RecordIsFront, RecordIsNumbered, PartHasNone};
 
 /// The records of any bytes are what stands at their front, and then the records of the bytes behind it.
 pub fn records_are_steps()
@@ -17,9 +17,10 @@ pub fn seen_is_read()
 {}
 
 /// What was taken of a capture tells the packets that were wholly taken: a header and a record stay what they are,
-/// whatever follows them, and fewer bytes than a record have no packet.
+/// whatever follows them, a packet has the number of its record, and fewer bytes than a record have no packet.
 pub fn fronts_tell()
     ensures header { HeaderIsFront }
     ensures one { RecordIsFront }
+    ensures number { RecordIsNumbered }
     ensures part { PartHasNone }
 {}

@@ -158,7 +158,7 @@ impl CapReader {
         requires reach { InReach self.old (H.inputs host.old) }
         ensures comes { IfSome (left self.old (H.inputs host.old)) (λ seen.
             Comes result seen (left self.new (H.inputs host.new))) }
-        ensures after { self.new ≡ reader_after result self.old }
+        ensures after { self.new ≡ reader_after result self.old self.new.kept }
         ensures id { self.new.id ≡ self.old.id }
         ensures reading { IfOk result (λ _. IsTrue (is_reading self.new.state)) }
         ensures usable { is_usable self.new.state ≡ is_usable (state_after result) }
@@ -167,7 +167,7 @@ impl CapReader {
             → (result ≡ Err (CapFail.Broken offset code)) × (host.new ≡ host.old) }
         ensures stamp { IfOk result (IsStampedBelow (43 * 10 ^ 17)) }
         ensures inputs { OnlyRead self.old.id.0 (H.inputs host.old) (H.inputs host.new) (λ bytes.
-            Takes result self.old.form self.old.number (self.old.kept ++ bytes)) }
+            Takes result self.old.form self.old.number (self.old.kept ++ bytes) self.new.kept) }
         ensures frame { MovesInputsOnly H.outputs H.files H.faults host.old host.new }
         ensures cause { IsErrOf result CapFail.ReadFault
             → CountRose CallKind.Read ((H.inputs host.old).name self.old.id.0)

@@ -2,7 +2,6 @@
 use Rattle.std.specs.Prelude.{◌≡◌, ℕ, ◌+◌, ◌-◌, ◌<◌, ◌≤◌, List, [], ◌∷◌, ◌++◌, length, slice_set, Result, IfOk}
 use Rattle.std.proofs.Common.{refl, sym, ap, subst, ◌∙◌, arith, append_assoc, append-nil, length-append, length-set}
 use Rattle.std.proofs.Math.Seq.{set-append_seam}
-use Rattle.db_model.specs.declared.database.Database.{Database}
 use Rattle.db_model.specs.declared.element.Element.{Element}
 use Rattle.expr_code.specs.declared.code.ExprCode.{ExprCode}
 use Rattle.db_model.specs.declared.field_kind.CaseRange.{CaseRange}
@@ -11,15 +10,17 @@ use Rattle.db_model.specs.Numbering.{Counts, none, counts_of}
 use Rattle.pdl_code.specs.declared.code.Op.{Op}
 use Rattle.pdl_code.specs.declared.code.Op.TheVariants.{End, Jump, Test, Switch}
 use Rattle.pdl_code.specs.declared.place.Place.{Place}
+use Rattle.pdl_code.specs.declared.scope.Scope.{Scope}
 use Rattle.pdl_code.specs.Coding.{Ops, ended, around, if_code, bodies, begins, switch_code, code_of}
 use Rattle.pdl_code.specs.Parts.{counts, Wrote, open_bodies, ends, jumps_to, AllBelow}
+use Rattle.pdl_code.specs.Written.{WroteElement}
 use Rattle.pdl_code.proofs.Elements.{plus_none}
 
 -- ---- what was written, under other names
 
-pub as_element : (db : Database) (q : ℕ) (x y : Element) (has : Counts) (code : Counts → Ops) (before after : Ops) (at : Place) (r : Result Place NoMemory) → x ≡ y → counts_of y ≡ has → code_of db q y ≡ code → IfOk r (λ to. Wrote has code before after at to) → IfOk r (λ to. Wrote (counts_of x) (code_of db q x) before after at to)
-as_element db q x y has code before after at r e f g h =
-    subst (λ c. IfOk r (λ to. Wrote (counts_of x) c before after at to)) (sym g ∙ ap (code_of db q) (sym e))
+pub as_element : (s : Scope) (x y : Element) (has : Counts) (code : Counts → Ops) (before after : Ops) (at : Place) (r : Result Place NoMemory) → x ≡ y → counts_of y ≡ has → code_of s.db.now s.protocol y ≡ code → IfOk r (λ to. Wrote has code before after at to) → IfOk r (λ to. WroteElement s x before after at to)
+as_element s x y has code before after at r e f g h =
+    subst (λ c. IfOk r (λ to. Wrote (counts_of x) c before after at to)) (sym g ∙ ap (code_of s.db.now s.protocol) (sym e))
     (subst (λ n. IfOk r (λ to. Wrote n code before after at to)) (sym f ∙ ap counts_of (sym e)) h)
 
 -- nothing was written

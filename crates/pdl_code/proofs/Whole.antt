@@ -12,13 +12,15 @@ use Rattle.pdl_code.specs.declared.code.BlockStart.{BlockStart}
 use Rattle.pdl_code.specs.declared.code.Op.TheVariants.{End}
 use Rattle.pdl_code.specs.declared.code.ProtoCode.{ProtoCode}
 use Rattle.pdl_code.specs.declared.place.Place.{Place}
+use Rattle.pdl_code.specs.declared.scope.Scope.{Scope}
 use Rattle.pdl_code.specs.Coding.{Ops, ended, code_of, codes_in, block_codes, block_starts, own_code, proto_code, protocol_codes}
-use Rattle.pdl_code.specs.Parts.{counts, Wrote, WroteOwn, WroteBlocks}
+use Rattle.pdl_code.specs.Parts.{counts}
+use Rattle.pdl_code.specs.Written.{WroteList, WroteOwn, WroteBlocks}
 use Rattle.pdl_code.proofs.Elements.{plus_none, plus_assoc}
 
 -- a list under another name
-pub as_list : (db : Database) (q : ℕ) (xs ys : List Element) (before after : Ops) (at to : Place) → xs ≡ ys → Wrote (counts_in xs) (codes_in db q xs) before after at to → Wrote (counts_in ys) (codes_in db q ys) before after at to
-as_list db q xs ys before after at to e w = subst (λ l. Wrote (counts_in l) (codes_in db q l) before after at to) e w
+pub as_list : (s : Scope) (xs ys : List Element) (before after : Ops) (at to : Place) → xs ≡ ys → WroteList s xs before after at to → WroteList s ys before after at to
+as_list s xs ys before after at to e w = subst (λ l. WroteList s l before after at to) e w
 
 -- what is written to its end
 pub ended_length : (ops code body more : Ops) → body ≡ ops ++ code → more ≡ body ++ End ∷ [] → length more ≡ length ops + length (ended code)
@@ -37,13 +39,15 @@ two_lists db q (x ∷ xs) ys n m e =
 flat : (o b f a e z : Ops) → ((((o ++ b) ++ f) ++ a) ++ e) ++ z ≡ o ++ ((b ++ (f ++ (a ++ e))) ++ z)
 flat o b f a e z = simp append_assoc
 
-pub own_wrote : (db : Database) (q : ℕ) (p : Protocol) (ops o1 o2 o3 o4 new : Ops) (start a b c d at : Place) → counts start ≡ none
-    → Wrote (counts_in (before_in p.execute_code)) (codes_in db q (before_in p.execute_code)) ops o1 start a
-    → Wrote (counts_in (fields_in p.format)) (codes_in db q (fields_in p.format)) o1 o2 a b
-    → Wrote (counts_in (after_in p.execute_code)) (codes_in db q (after_in p.execute_code)) o2 o3 b c
-    → Wrote (counts_in (elements_in p.encapsulation)) (codes_in db q (elements_in p.encapsulation)) o3 o4 c d
-    → new ≡ o4 ++ End ∷ [] → at.fields ≡ b.fields - a.fields → at.blocks ≡ b.blocks - a.blocks → WroteOwn (counts_in (fields_in p.format)) (own_code db q p) ops new at
-own_wrote db q p ops o1 o2 o3 o4 new start a b c d at s w1 w2 w3 w4 e f g =
+pub own_wrote : (scope : Scope) (p : Protocol) (ops o1 o2 o3 o4 new : Ops) (start a b c d at : Place) → counts start ≡ none
+    → WroteList scope (before_in p.execute_code) ops o1 start a
+    → WroteList scope (fields_in p.format) o1 o2 a b
+    → WroteList scope (after_in p.execute_code) o2 o3 b c
+    → WroteList scope (elements_in p.encapsulation) o3 o4 c d
+    → new ≡ o4 ++ End ∷ [] → at.fields ≡ b.fields - a.fields → at.blocks ≡ b.blocks - a.blocks → WroteOwn scope p ops new at
+own_wrote scope p ops o1 o2 o3 o4 new start a b c d at s w1 w2 w3 w4 e f g =
+    let db = scope.db.now in
+    let q = scope.protocol in
     let B = before_in p.execute_code in
     let F = fields_in p.format in
     let A = after_in p.execute_code in
@@ -67,12 +71,14 @@ own_wrote db q p ops o1 o2 o3 o4 new start a b c d at s w1 w2 w3 w4 e f g =
           ∙ ap (λ k. ops ++ ended (codes_in db q (elements_of p) k)) s;
     }
 
-pub protocol_wrote : (db : Database) (q : ℕ) (p : Protocol) (bs : List NamedBlock) (first mid now : Ops) (starts : List BlockStart) (at : Place) → first ≡ [] → bs ≡ blocks_in p.format
-    → WroteOwn (counts_in (fields_in p.format)) (own_code db q p) first mid at
-    → WroteBlocks (block_codes db q bs (counts at)) (block_starts db q (length mid) bs (counts at)) mid now starts
-    → record { ops = now; blocks = starts } ≡ proto_code db q p
+pub protocol_wrote : (s : Scope) (p : Protocol) (bs : List NamedBlock) (first mid now : Ops) (starts : List BlockStart) (at : Place) → first ≡ [] → bs ≡ blocks_in p.format
+    → WroteOwn s p first mid at
+    → WroteBlocks s bs at mid now starts
+    → record { ops = now; blocks = starts } ≡ proto_code s.db.now s.protocol p
 unfolding proto_code
-protocol_wrote db q p bs first mid now starts at e b w x =
+protocol_wrote s p bs first mid now starts at e b w x =
+    let db = s.db.now in
+    let q = s.protocol in
     let m : mid ≡ own_code db q p = w.ops ∙ ap (λ l. l ++ own_code db q p) e in
     let os : now ≡ own_code db q p ++ block_codes db q (blocks_in p.format) (counts_in (fields_in p.format)) = x.ops ∙ (λ i. m i ++ block_codes db q (b i) (w.place i)) in
     let ss : starts ≡ block_starts db q (length (own_code db q p)) (blocks_in p.format) (counts_in (fields_in p.format)) = x.begin ∙ (λ i. block_starts db q (length (m i)) (b i) (w.place i)) in

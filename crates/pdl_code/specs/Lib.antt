@@ -3,3 +3,4 @@ pub mod Does
 pub mod Means
 pub mod Parts
 pub mod Sound
+pub mod Written

@@ -5,8 +5,8 @@ use Rattle.db_model.specs.declared.element.Branch.{Branch}
 use Rattle.db_model.specs.declared.element.Case.{Case}
 use Rattle.db_model.specs.declared.field_kind.CaseRange.{CaseRange}
 use Rattle.db_model.specs.Numbering.{Counts, none, plus, counts_in}
-use Rattle.pdl_code.specs.declared.code.BlockStart.{BlockStart}
-use Rattle.pdl_code.specs.declared.code.Op.TheVariants.{End, Jump}
+use Rattle.expr_code.specs.declared.code.ExprCode.{ExprCode}
+use Rattle.pdl_code.specs.declared.code.Op.TheVariants.{End, Jump, Test, Switch}
 use Rattle.pdl_code.specs.declared.place.Place.{Place}
 use Rattle.pdl_code.specs.declared.written.Bodies.{Bodies}
 use Rattle.pdl_code.specs.Coding.{Ops, begins, codes_in}
@@ -61,6 +61,19 @@ abbrev pub AllBelow : ℕ → List ℕ → Type 0
 AllBelow n [] = Unit {0}
 AllBelow n (p ∷ ps) = (p < n) × AllBelow n ps
 
+-- ---- what is written over room that was left
+
+-- a test, and the jump to the end that stands before what is done otherwise
+abbrev pub test_at : ℕ → ℕ → ExprCode → Ops → Ops
+test_at start middle e ops =
+    slice_set (slice_set ops start (Test e (middle - start))) middle (Jump (length ops - middle - 1))
+
+-- a switch, and the jumps to the end that stand behind the bodies of its cases
+abbrev pub switch_at : ℕ → ℕ → ExprCode → List CaseRange → Bodies → Ops → Ops
+switch_at start middle e ranges b ops =
+    slice_set (jumps_to (length ops) b.ends ops) start
+    (Switch e (record { ranges = ranges; targets = b.begins; otherwise = middle - start - 1 }))
+
 -- ---- what was written of cases
 
 -- the bodies stand behind those operations that were there, with where each begins and ends
@@ -69,15 +82,3 @@ pub record WroteBodies (has : Counts) (cases : List Ops) (before after : Ops) (a
   pub ops : after ≡ before ++ open_bodies cases
   pub begin : b.begins ≡ begins 0 cases
   pub end : b.ends ≡ ends (length before) cases
-
--- ---- what was written of a protocol
-
--- its own list, of whose field list the counts are given
-pub record WroteOwn (has : Counts) (code before after : Ops) (at : Place) : Type 0 where
-  pub place : counts at ≡ has
-  pub ops : after ≡ before ++ code
-
--- its named blocks, with where each begins
-pub record WroteBlocks (code : Ops) (starts : List BlockStart) (before after : Ops) (written : List BlockStart) : Type 0 where
-  pub ops : after ≡ before ++ code
-  pub begin : written ≡ starts

@@ -1,20 +1,19 @@
 //! The operations of elements in which no others stand.
 
-ghost use Rattle.std.specs.Prelude.{◌≡◌, [], ◌∷◌, true, slice_get, IfOk};
-ghost use Rattle.db_model.specs.Names.{variable_at};
-ghost use Rattle.db_model.specs.Numbering.{none, a_field};
-ghost use Rattle.pdl_code.specs.Coding.{is_sound, field_op, field_code, block_count, include_of, resolved, update_code};
-ghost use Rattle.pdl_code.specs.Parts.{Wrote};
+ghost use Rattle.std.specs.Prelude.{◌≡◌, true, slice_get, IfOk};
+ghost use Rattle.pdl_code.specs.Coding.{is_sound, field_op, block_count};
+ghost use Rattle.pdl_code.specs.Written.{WroteField, WroteOp, WroteInclude, WroteAssign, WroteUpdate, WroteNext};
 
+use crate::entry::{self, UpdateForm};
 use crate::place::Place;
-use crate::{Op, SoundKind, UpdateCode, entry};
+use crate::scope::Scope;
+use crate::{Op, SoundKind, UpdateCode};
 use db_model::{
     CheckedDb, Expr, FieldForm, FieldKind, LEAST_ALIGNMENT, MOST_ALIGNMENT, MOST_BIT_SIZE, Name,
-    NoMemory, Protocol, UpdateKey, UpdateValue, Validity,
+    NoMemory, Protocol,
 };
 use expr_code::code_of;
 use sqlite_items::Items;
-use std::alloc::Global;
 
 /// Whether a field of this form can be read: a bit field has 1 to 4 bytes and a mask other than 0, and an alignment
 /// is within its limits.
@@ -31,15 +30,9 @@ fn is_sound(form: &FieldForm) -> bool
     }
 }
 
-fn field_op(
-    alloc: Global,
-    db: &CheckedDb,
-    protocol: u16,
-    form: &FieldForm,
-    number: u32,
-) -> Result<Op, NoMemory>
+fn field_op(scope: &Scope<'_>, form: &FieldForm, number: u32) -> Result<Op, NoMemory>
     requires { is_sound form.now ≡ true }
-    ensures { IfOk result (λ o. o ≡ field_op db.now protocol form.now number) }
+    ensures { IfOk result (λ o. o ≡ field_op scope.now.db.now scope.now.protocol form.now number) }
 {
     match form {
         FieldForm::Fixed { size } => Ok(Op::Field {
@@ -55,7 +48,7 @@ fn field_op(
         }),
         FieldForm::Variable { expr } => Ok(Op::SizedField {
             number,
-            size: code_of(alloc, expr, db, protocol)?,
+            size: code_of(scope.alloc, expr, scope.db, scope.protocol)?,
         }),
         FieldForm::TokenEnded { token } => Ok(Op::Field {
             number,
@@ -74,26 +67,24 @@ fn field_op(
 
 /// A field; nothing where it can't be read.
 pub fn field(
-    alloc: Global,
-    db: &CheckedDb,
-    protocol: u16,
+    scope: &Scope<'_>,
     form: &FieldForm,
     at: Place,
     ops: &mut Items<Op>,
 ) -> Result<Place, NoMemory>
-    ensures { IfOk result (λ to. Wrote a_field (λ n. field_code db.now protocol form.now n.fields) ops.old ops.new at to) }
+    ensures { IfOk result (λ to. WroteField scope.now form.now ops.old ops.new at to) }
 {
     let to = at.behind_field()?;
     if !is_sound(form) {
         return Ok(to);
     }
-    ops.push(field_op(alloc, db, protocol, form, at.fields)?)?;
+    ops.push(field_op(scope, form, at.fields)?)?;
     Ok(to)
 }
 
 /// An operation behind those that are there.
 pub fn put(op: Op, at: Place, ops: &mut Items<Op>) -> Result<Place, NoMemory>
-    ensures { IfOk result (λ to. Wrote none (λ n. op ∷ []) ops.old ops.new at to) }
+    ensures { IfOk result (λ to. WroteOp op ops.old ops.new at to) }
 {
     ops.push(op)?;
     Ok(at)
@@ -120,60 +111,50 @@ fn count_of(protocol: &Protocol) -> usize
 
 /// An included block; nothing where it isn't declared.
 pub fn include(
-    db: &CheckedDb,
-    protocol: u16,
+    scope: &Scope<'_>,
     name: &Name,
     at: Place,
     ops: &mut Items<Op>,
 ) -> Result<Place, NoMemory>
-    ensures { IfOk result (λ to. Wrote none (λ n. include_of db.now protocol name.now) ops.old ops.new at to) }
+    ensures { IfOk result (λ to. WroteInclude scope.now name.now ops.old ops.new at to) }
 {
-    let block = db.block_at(protocol as usize, name.as_slice());
-    if block < block_count(db, protocol) {
+    let block = scope.db.block_at(scope.protocol as usize, name.as_slice());
+    if block < block_count(scope.db, scope.protocol) {
         return put(Op::Include { block }, at, ops);
     }
     Ok(at)
 }
 
 pub fn assign(
-    alloc: Global,
-    db: &CheckedDb,
-    protocol: u16,
+    scope: &Scope<'_>,
     name: &Name,
     value: &Expr,
     at: Place,
     ops: &mut Items<Op>,
 ) -> Result<Place, NoMemory>
-    ensures { IfOk result (λ to. Wrote none (λ n. Op.Assign (variable_at db.now name.now) (resolved db.now protocol value.now) ∷ []) ops.old ops.new at to) }
+    ensures { IfOk result (λ to. WroteAssign scope.now name.now value.now ops.old ops.new at to) }
 {
-    let variable = db.variable_at(name.as_slice());
-    let value = code_of(alloc, value, db, protocol)?;
+    let variable = scope.db.variable_at(name.as_slice());
+    let value = code_of(scope.alloc, value, scope.db, scope.protocol)?;
     put(Op::Assign { variable, value }, at, ops)
 }
 
 pub fn update(
-    alloc: Global,
-    db: &CheckedDb,
-    protocol: u16,
-    table: &Name,
-    validity: Validity,
-    keep: Option<u32>,
-    hit: Option<u32>,
-    keys: &[UpdateKey],
-    row: &[UpdateValue],
+    scope: &Scope<'_>,
+    form: &UpdateForm<'_>,
     at: Place,
     ops: &mut Items<Op>,
 ) -> Result<Place, NoMemory>
-    ensures { IfOk result (λ to. Wrote none (λ n. Op.Update (update_code db.now protocol table.now validity keep hit keys.now row.now) ∷ []) ops.old ops.new at to) }
+    ensures { IfOk result (λ to. WroteUpdate scope.now form.now ops.old ops.new at to) }
 {
-    let table = db.table_at(table.as_slice());
-    let keys = entry::keys(alloc, db, protocol, keys)?;
-    let row = entry::row(alloc, db, protocol, row)?;
+    let table = scope.db.table_at(form.table.as_slice());
+    let keys = entry::keys(scope, form.keys)?;
+    let row = entry::row(scope, form.row)?;
     let update = UpdateCode {
         table,
-        validity,
-        keep,
-        hit,
+        validity: form.validity,
+        keep: form.keep,
+        hit: form.hit,
         keys,
         row,
     };
@@ -181,15 +162,13 @@ pub fn update(
 }
 
 pub fn next_proto(
-    alloc: Global,
-    db: &CheckedDb,
-    protocol: u16,
+    scope: &Scope<'_>,
     value: &Expr,
     at: Place,
     ops: &mut Items<Op>,
 ) -> Result<Place, NoMemory>
-    ensures { IfOk result (λ to. Wrote none (λ n. Op.NextProto (resolved db.now protocol value.now) ∷ []) ops.old ops.new at to) }
+    ensures { IfOk result (λ to. WroteNext scope.now value.now ops.old ops.new at to) }
 {
-    let value = code_of(alloc, value, db, protocol)?;
+    let value = code_of(scope.alloc, value, scope.db, scope.protocol)?;
     put(Op::NextProto { value }, at, ops)
 }

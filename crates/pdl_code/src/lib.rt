@@ -9,6 +9,7 @@ mod entry;
 mod leaf;
 mod place;
 mod protocols;
+mod scope;
 mod sound;
 mod written;
 

@@ -1,14 +1,15 @@
 //! The code of protocols, and of a whole database.
 
-ghost use Rattle.std.specs.Prelude.{◌≡◌, length, IfOk};
+ghost use Rattle.std.specs.Prelude.{◌≡◌, IfOk};
 ghost use Rattle.db_model.specs.Chain.{before_in, after_in};
-ghost use Rattle.db_model.specs.Numbering.{counts_in, elements_in, fields_in, blocks_in};
-ghost use Rattle.pdl_code.specs.Coding.{own_code, block_codes, block_starts, proto_code};
+ghost use Rattle.db_model.specs.Numbering.{elements_in, fields_in, blocks_in};
+ghost use Rattle.pdl_code.specs.Coding.{proto_code};
 ghost use Rattle.pdl_code.specs.Does.{IsCodeOf};
-ghost use Rattle.pdl_code.specs.Parts.{counts, WroteOwn, WroteBlocks};
+ghost use Rattle.pdl_code.specs.Written.{WroteOwn, WroteBlocks};
 
 use crate::emit::list;
 use crate::place::Place;
+use crate::scope::Scope;
 use crate::{BlockStart, Code, Op, ProtoCode};
 use db_model::{CheckedDb, Element, ElementList, NamedBlock, NoMemory, Protocol};
 use sqlite_items::Items;
@@ -21,56 +22,48 @@ pub fn compile(alloc: Global, db: &CheckedDb) -> Result<Code, NoMemory>
     let declared = db.database().protocols.as_slice();
     let mut protocols = Items::new(alloc);
     for (number, protocol) in declared.iter().enumerate() {
-        protocols.push(of_protocol(alloc, db, number as u16, protocol)?)?;
+        let scope = Scope {
+            alloc,
+            db,
+            protocol: number as u16,
+        };
+        protocols.push(of_protocol(&scope, protocol)?)?;
     }
     Ok(Code { protocols })
 }
 
-fn of_protocol(
-    alloc: Global,
-    db: &CheckedDb,
-    number: u16,
-    protocol: &Protocol,
-) -> Result<ProtoCode, NoMemory>
-    ensures { IfOk result (λ c. c ≡ proto_code db.now number protocol.now) }
+fn of_protocol(scope: &Scope<'_>, protocol: &Protocol) -> Result<ProtoCode, NoMemory>
+    ensures { IfOk result (λ c. c ≡ proto_code scope.now.db.now scope.now.protocol protocol.now) }
 {
-    let mut ops = Items::new(alloc);
-    let at = own_list(alloc, db, number, protocol, &mut ops)?;
-    let blocks = named(alloc, db, number, blocks_in(protocol), at, &mut ops)?;
+    let mut ops = Items::new(scope.alloc);
+    let at = own_list(scope, protocol, &mut ops)?;
+    let blocks = named(scope, blocks_in(protocol), at, &mut ops)?;
     Ok(ProtoCode { ops, blocks })
 }
 
 /// The own list of a protocol, to its end. What stands in the field list alone is given.
-fn own_list(
-    alloc: Global,
-    db: &CheckedDb,
-    number: u16,
-    protocol: &Protocol,
-    ops: &mut Items<Op>,
-) -> Result<Place, NoMemory>
-    ensures { IfOk result (λ at. WroteOwn (counts_in (fields_in protocol.now.format)) (own_code db.now number protocol.now) ops.old ops.new at) }
+fn own_list(scope: &Scope<'_>, protocol: &Protocol, ops: &mut Items<Op>) -> Result<Place, NoMemory>
+    ensures { IfOk result (λ at. WroteOwn scope.now protocol.now ops.old ops.new at) }
 {
-    let fields = list(alloc, db, number, before_in(protocol), Place::start(), ops)?;
-    let after = list(alloc, db, number, fields_in(protocol), fields, ops)?;
-    let encapsulation = list(alloc, db, number, after_in(protocol), after, ops)?;
+    let fields = list(scope, before_in(protocol), Place::start(), ops)?;
+    let after = list(scope, fields_in(protocol), fields, ops)?;
+    let encapsulation = list(scope, after_in(protocol), after, ops)?;
     let last = elements_in(&protocol.encapsulation);
-    list(alloc, db, number, last, encapsulation, ops)?;
+    list(scope, last, encapsulation, ops)?;
     ops.push(Op::End)?;
     Ok(after.since(fields))
 }
 
 /// The named blocks, each to its end, and where each begins.
 fn named(
-    alloc: Global,
-    db: &CheckedDb,
-    number: u16,
+    scope: &Scope<'_>,
     blocks: &[NamedBlock],
     at: Place,
     ops: &mut Items<Op>,
 ) -> Result<Items<BlockStart>, NoMemory>
-    ensures { IfOk result (λ s. WroteBlocks (block_codes db.now number blocks.now (counts at)) (block_starts db.now number (length ops.old) blocks.now (counts at)) ops.old ops.new s) }
+    ensures { IfOk result (λ starts. WroteBlocks scope.now blocks.now at ops.old ops.new starts) }
 {
-    let mut starts = Items::new(alloc);
+    let mut starts = Items::new(scope.alloc);
     let mut to = at;
     for block in blocks {
         starts.push(BlockStart {
@@ -78,7 +71,7 @@ fn named(
             at: ops.len(),
         })?;
         let inside = to.behind_block()?;
-        to = list(alloc, db, number, block.body.as_slice(), inside, ops)?;
+        to = list(scope, block.body.as_slice(), inside, ops)?;
         ops.push(Op::End)?;
     }
     Ok(starts)

@@ -1,13 +1,12 @@
 //! Room for operations that can be written only once what stands behind them is known.
 
-ghost use Rattle.std.specs.Prelude.{◌≡◌, ◌<◌, ◌≤◌, ◌-◌, ◌++◌, ◌∷◌, [], map, length, slice_set, IfOk, OnOk};
-ghost use Rattle.pdl_code.specs.Coding.{resolved};
-ghost use Rattle.pdl_code.specs.Parts.{case_range, jumps_to, AllBelow};
+ghost use Rattle.std.specs.Prelude.{◌≡◌, ◌<◌, ◌≤◌, map, length, IfOk};
+ghost use Rattle.pdl_code.specs.Parts.{case_range, jumps_to, test_at, switch_at, AllBelow};
 
 use crate::place::Place;
 use crate::{Choice, Op, Ranges};
-use db_model::{Case, CaseRange, CheckedDb, Expr, NoMemory};
-use expr_code::code_of;
+use db_model::{Case, CaseRange, NoMemory};
+use expr_code::ExprCode;
 use sqlite_items::Items;
 use std::alloc::Global;
 
@@ -21,20 +20,11 @@ pub struct Bodies {
 }
 
 /// Writes a test and the jump behind what it does where its value isn't 0.
-pub fn write_test(
-    alloc: Global,
-    db: &CheckedDb,
-    protocol: u16,
-    value: &Expr,
-    start: usize,
-    middle: usize,
-    ops: &mut Items<Op>,
-) -> Result<(), NoMemory>
+pub fn write_test(value: ExprCode, start: usize, middle: usize, ops: &mut Items<Op>)
     requires order { start ≤ middle }
     requires within { middle < length ops.old }
-    ensures { OnOk result (ops.new ≡ slice_set (slice_set ops.old start (Op.Test (resolved db.now protocol value.now) (middle - start))) middle (Op.Jump (length ops.old - middle - 1))) }
+    ensures { ops.new ≡ test_at start middle value ops.old }
 {
-    let value = code_of(alloc, value, db, protocol)?;
     let end = ops.len();
     ops.set(
         start,
@@ -49,28 +39,22 @@ pub fn write_test(
             to: end - middle - 1,
         },
     );
-    Ok(())
 }
 
 /// Writes a switch, and the jumps behind the bodies of its cases. `middle` is where the default begins.
 pub fn write_switch(
-    alloc: Global,
-    db: &CheckedDb,
-    protocol: u16,
-    value: &Expr,
-    cases: &[Case],
+    value: ExprCode,
+    ranges: Ranges,
     bodies: Bodies,
     start: usize,
     middle: usize,
     ops: &mut Items<Op>,
-) -> Result<(), NoMemory>
+)
     requires order { start < middle }
     requires within { start < length ops.old }
     requires ends { AllBelow (length ops.old) bodies.ends }
-    ensures { OnOk result (ops.new ≡ slice_set (jumps_to (length ops.old) bodies.ends ops.old) start (Op.Switch (resolved db.now protocol value.now) (record { ranges = map case_range cases.now; targets = bodies.begins; otherwise = middle - start - 1 }))) }
+    ensures { ops.new ≡ switch_at start middle value ranges bodies ops.old }
 {
-    let value = code_of(alloc, value, db, protocol)?;
-    let ranges = ranges(alloc, cases)?;
     write_jumps(ops, bodies.ends.as_slice());
     let choice = Choice {
         ranges,
@@ -78,11 +62,10 @@ pub fn write_switch(
         otherwise: middle - start - 1,
     };
     ops.set(start, Op::Switch { value, choice });
-    Ok(())
 }
 
-/// NoMemory may come only for 2^32 cases and more, which no memory holds.
-fn ranges(alloc: Global, cases: &[Case]) -> Result<Ranges, NoMemory>
+/// The ranges of the cases. NoMemory may come only for 2^32 cases and more, which no memory holds.
+pub fn ranges_of(alloc: Global, cases: &[Case]) -> Result<Ranges, NoMemory>
     ensures { IfOk result (λ r. r ≡ map case_range cases.now) }
 {
     let mut ranges = Items::new(alloc);

@@ -6,10 +6,10 @@ ghost use Rattle.show.specs.Markup.{escaped};
 ghost use Rattle.show.specs.Naming.{begun, named};
 ghost use Rattle.show.specs.Shown;
 
-use db_model::{CheckedDb, NoMemory, Reason};
+use db_model::{NoMemory, Reason};
 use show::{
-    BlockLabel, FieldLabel, TextForm, push, push_characters, push_hex, push_hex_and_shown,
-    push_number, template_of,
+    BlockLabel, FieldLabel, Labelled, TextForm, push, push_characters, push_hex,
+    push_hex_and_shown, push_number,
 };
 
 /// Adds the beginning of the line of a field, that of one without a name where it isn't declared. The same for blocks.
@@ -49,7 +49,7 @@ fn push_numbers(text: &mut Vec<u8>, pos: u32, size: u32, behind: &[u8]) -> Resul
 /// Adds a field of a declared protocol.
 pub fn push_field(
     text: &mut Vec<u8>,
-    db: &CheckedDb,
+    db: &Labelled,
     label: Option<&FieldLabel>,
     pos: u32,
     size: u32,
@@ -60,7 +60,7 @@ pub fn push_field(
 {
     push_field_beginning(text, label)?;
     push_numbers(text, pos, size, b"\" value=\"")?;
-    push_hex_and_shown(text, b"\" show=\"", template_of(db, label), value)?;
+    push_hex_and_shown(text, b"\" show=\"", db.template_of(label), value)?;
     push(text, b"\"/>\n")
 }
 

@@ -1,26 +1,19 @@
 ghost use Rattle.std.specs.Prelude.{◌≡◌, ◌++◌, IfOk, OnOk, codes};
 ghost use Rattle.std.specs.List.{flat_map};
-ghost use Rattle.show.specs.Labels.{labels_of};
 ghost use Rattle.pdml_out.specs.Pdml;
 
 use crate::lines::{push_payload_field, push_payload_line, push_protocol_line};
 use crate::nodes::push_nodes;
-use db_model::{CheckedDb, NoMemory, Node, PAYLOAD, Packet, PacketTree, Proto};
-use show::{Labels, push, push_number, push_timestamp};
+use db_model::{NoMemory, Node, PAYLOAD, Packet, PacketTree, Proto};
+use show::{Labelled, push, push_number, push_timestamp};
 use std::alloc::Global;
 
 /// Adds a protocol of the database.
-fn push_protocol(
-    text: &mut Vec<u8>,
-    db: &CheckedDb,
-    labels: &Labels,
-    proto: &Proto,
-) -> Result<(), NoMemory>
-    requires { labels.now ≡ labels_of db.now }
+fn push_protocol(text: &mut Vec<u8>, db: &Labelled, proto: &Proto) -> Result<(), NoMemory>
     ensures { OnOk result (text.new.items ≡ text.old.items ++ Pdml.protocol_text db.now proto.now) }
 {
-    push_protocol_line(text, labels.line(proto.number), proto.pos, proto.size)?;
-    push_nodes(text, db, labels, proto.number, proto.nodes.as_slice())?;
+    push_protocol_line(text, db.line(proto.number), proto.pos, proto.size)?;
+    push_nodes(text, db, proto.number, proto.nodes.as_slice())?;
     push(text, b"</proto>\n")
 }
 
@@ -59,34 +52,22 @@ fn push_payload(text: &mut Vec<u8>, proto: &Proto) -> Result<(), NoMemory>
 
 /// Adds a protocol of the tree.
 #[tactic(auto, unfolding(crate::specs::Pdml::proto_text))]
-fn push_proto(
-    text: &mut Vec<u8>,
-    db: &CheckedDb,
-    labels: &Labels,
-    proto: &Proto,
-) -> Result<(), NoMemory>
-    requires { labels.now ≡ labels_of db.now }
+fn push_proto(text: &mut Vec<u8>, db: &Labelled, proto: &Proto) -> Result<(), NoMemory>
     ensures { OnOk result (text.new.items ≡ text.old.items ++ Pdml.proto_text db.now proto.now) }
 {
     if proto.number == PAYLOAD {
         push_payload(text, proto)
     } else {
-        push_protocol(text, db, labels, proto)
+        push_protocol(text, db, proto)
     }
 }
 
-fn push_protos(
-    text: &mut Vec<u8>,
-    db: &CheckedDb,
-    labels: &Labels,
-    protos: &[Proto],
-) -> Result<(), NoMemory>
-    requires { labels.now ≡ labels_of db.now }
+fn push_protos(text: &mut Vec<u8>, db: &Labelled, protos: &[Proto]) -> Result<(), NoMemory>
     ensures { OnOk result (text.new.items ≡
         text.old.items ++ flat_map (Pdml.proto_text db.now) protos.now) }
 {
     for proto in protos {
-        push_proto(text, db, labels, proto)?;
+        push_proto(text, db, proto)?;
     }
     Ok(())
 }
@@ -111,33 +92,29 @@ fn push_packet_line(text: &mut Vec<u8>, packet: &Packet) -> Result<(), NoMemory>
 #[tactic(auto, unfolding(crate::specs::Pdml::packet_text))]
 pub fn push_packet_text(
     text: &mut Vec<u8>,
-    db: &CheckedDb,
-    labels: &Labels,
+    db: &Labelled,
     packet: &Packet,
     tree: &PacketTree,
 ) -> Result<(), NoMemory>
-    requires { labels.now ≡ labels_of db.now }
     ensures { OnOk result (text.new.items ≡
         text.old.items ++ Pdml.packet_text db.now packet.now tree.now) }
 {
     push_packet_line(text, packet)?;
-    push_protos(text, db, labels, tree.as_slice())?;
+    push_protos(text, db, tree.as_slice())?;
     push(text, b"</packet>\n")
 }
 
 /// The text of a packet with its tree.
 pub fn packet_text(
     alloc: Global,
-    db: &CheckedDb,
-    labels: &Labels,
+    db: &Labelled,
     packet: &Packet,
     tree: &PacketTree,
 ) -> Result<Vec<u8>, NoMemory>
-    requires { labels.now ≡ labels_of db.now }
     ensures { IfOk result (λ text. text.items ≡ Pdml.packet_text db.now packet.now tree.now) }
 {
     let mut text = Vec::new(alloc);
-    push_packet_text(&mut text, db, labels, packet, tree)?;
+    push_packet_text(&mut text, db, packet, tree)?;
     Ok(text)
 }
 

@@ -1,4 +1,3 @@
 pub mod Fields
 pub mod Psml
-pub mod Source
 pub mod Summaries

@@ -10,4 +10,5 @@ mod source;
 mod summaries;
 
 pub use packet::{closing, opening, packet_text, push_packet_text};
+pub use source::Summed;
 pub use summaries::{Content, Contents, Summaries};

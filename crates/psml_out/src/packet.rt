@@ -1,16 +1,14 @@
 ghost use Rattle.std.specs.Prelude.{◌≡◌, ◌<◌, ◌++◌, IfOk, OnOk, length};
 ghost use Rattle.std.specs.List.{flat_map};
-ghost use Rattle.show.specs.Labels.{labels_of};
 ghost use Rattle.show.specs.Markup.{escaped};
 ghost use Rattle.psml_out.specs.Psml;
-ghost use Rattle.psml_out.specs.Source.{IsOwn};
-ghost use Rattle.psml_out.specs.Summaries.{sections, summaries_of};
+ghost use Rattle.psml_out.specs.Summaries.{sections};
 
 use crate::pieces::push_proto;
-use crate::source::Source;
-use crate::summaries::{Summaries, sections_of};
+use crate::source::{Source, Summed};
+use crate::summaries::sections_of;
 use db_model::{CheckedDb, NoMemory, Packet, PacketTree, Proto, SectionDecl};
-use show::{Labels, TextForm, push, push_written};
+use show::{TextForm, push, push_written};
 use std::alloc::Global;
 
 /// Adds the text of the section of this number.
@@ -21,8 +19,7 @@ fn push_section_text(
     section: usize,
     tree: &[Proto],
 ) -> Result<(), NoMemory>
-    requires own { IsOwn source.now }
-    requires section { section < length (sections source.now.db.now) }
+    requires { section < length (sections source.now.db.now) }
     ensures { OnOk result (text.new.items ≡ text.old.items
         ++ escaped (Psml.section_text source.now.db.now source.now.packet.now tree.now section)) }
 {
@@ -39,8 +36,7 @@ fn push_section(
     section: usize,
     tree: &[Proto],
 ) -> Result<(), NoMemory>
-    requires own { IsOwn source.now }
-    requires section { section < length (sections source.now.db.now) }
+    requires { section < length (sections source.now.db.now) }
     ensures { OnOk result (text.new.items ≡ text.old.items
         ++ Psml.section_line (Psml.section_text source.now.db.now source.now.packet.now tree.now section)) }
 {
@@ -51,11 +47,10 @@ fn push_section(
 
 #[tactic(auto, using(crate::proofs::SectionLines::one_more))]
 fn push_sections(text: &mut Vec<u8>, source: &Source, tree: &[Proto]) -> Result<(), NoMemory>
-    requires { IsOwn source.now }
     ensures { OnOk result (text.new.items ≡ text.old.items
         ++ flat_map Psml.section_line (Psml.section_texts source.now.db.now source.now.packet.now tree.now)) }
 {
-    let count = section_count(source.db);
+    let count = section_count(source.db.labelled().database());
     for section in 0..count {
         push_section(text, source, section, tree)?;
     }
@@ -72,43 +67,29 @@ fn section_count(db: &CheckedDb) -> usize
 #[tactic(auto, unfolding(crate::specs::Psml::packet_text))]
 pub fn push_packet_text(
     text: &mut Vec<u8>,
-    db: &CheckedDb,
-    labels: &Labels,
-    summaries: &Summaries,
+    db: &Summed,
     packet: &Packet,
     tree: &PacketTree,
 ) -> Result<(), NoMemory>
-    requires labels { labels.now ≡ labels_of db.now }
-    requires summaries { summaries.now ≡ summaries_of db.now }
     ensures { OnOk result (text.new.items ≡
         text.old.items ++ Psml.packet_text db.now packet.now tree.now) }
 {
     push(text, b"<packet>\n")?;
-    let source = Source {
-        db,
-        labels,
-        summaries,
-        packet,
-    };
-    push_sections(text, &source, tree.as_slice())?;
+    push_sections(text, &Source { db, packet }, tree.as_slice())?;
     push(text, b"</packet>\n")
 }
 
 /// The text of a packet with its tree.
 pub fn packet_text(
     alloc: Global,
-    db: &CheckedDb,
-    labels: &Labels,
-    summaries: &Summaries,
+    db: &Summed,
     packet: &Packet,
     tree: &PacketTree,
 ) -> Result<Vec<u8>, NoMemory>
-    requires labels { labels.now ≡ labels_of db.now }
-    requires summaries { summaries.now ≡ summaries_of db.now }
     ensures { IfOk result (λ text. text.items ≡ Psml.packet_text db.now packet.now tree.now) }
 {
     let mut text = Vec::new(alloc);
-    push_packet_text(&mut text, db, labels, summaries, packet, tree)?;
+    push_packet_text(&mut text, db, packet, tree)?;
     Ok(text)
 }
 

@@ -3,7 +3,6 @@ ghost use Rattle.std.specs.List.{flat_map};
 ghost use Rattle.show.specs.Markup.{escaped};
 ghost use Rattle.show.specs.Stamps.{timestamp};
 ghost use Rattle.psml_out.specs.Psml;
-ghost use Rattle.psml_out.specs.Source.{IsOwn};
 ghost use Rattle.psml_out.specs.Summaries.{sections};
 
 use crate::last_field::last_field;
@@ -44,14 +43,14 @@ fn push_last_field(
     proto: &Proto,
     name: &[u8],
 ) -> Result<(), NoMemory>
-    requires { IsOwn source.now }
     ensures { OnOk result (text.new.items ≡
         text.old.items ++ escaped (Psml.last_shown source.now.db.now proto.now name.now)) }
 {
-    match last_field(source.labels, proto.number, name, proto.nodes.as_slice()) {
+    let db = source.db.labelled();
+    match last_field(db, proto.number, name, proto.nodes.as_slice()) {
         Some(found) => {
-            let label = source.labels.field(proto.number, found.field);
-            push_field_shown(text, TextForm::Markup, source.db, label, found.value)
+            let label = db.field(proto.number, found.field);
+            push_field_shown(text, TextForm::Markup, db, label, found.value)
         }
         None => Ok(()),
     }
@@ -63,7 +62,6 @@ fn push_content(
     proto: &Proto,
     content: &Content,
 ) -> Result<(), NoMemory>
-    requires { IsOwn source.now }
     ensures { OnOk result (text.new.items ≡
         text.old.items ++ escaped (Psml.content_text source.now.db.now source.now.packet.now proto.now content.now)) }
 {
@@ -80,7 +78,6 @@ fn push_contents(
     proto: &Proto,
     contents: &[Content],
 ) -> Result<(), NoMemory>
-    requires { IsOwn source.now }
     ensures { OnOk result (text.new.items ≡ text.old.items
         ++ escaped (flat_map (Psml.content_text source.now.db.now source.now.packet.now proto.now) contents.now)) }
 {
@@ -97,11 +94,10 @@ pub fn push_proto(
     section: usize,
     proto: &Proto,
 ) -> Result<(), NoMemory>
-    requires own { IsOwn source.now }
-    requires section { section < length (sections source.now.db.now) }
+    requires { section < length (sections source.now.db.now) }
     ensures { OnOk result (text.new.items ≡ text.old.items
         ++ escaped (Psml.proto_text source.now.db.now source.now.packet.now section proto.now)) }
 {
-    let contents = source.summaries.contents_of(proto.number, section);
+    let contents = source.db.contents_of(proto.number, section);
     push_contents(text, source, proto, contents)
 }

@@ -71,7 +71,8 @@ impl Summaries {
 
     /// What the protocol of this number adds to each section, nothing where it has no sum template.
     fn sections_of(&self, protocol: u16) -> &[Contents]
-        ensures { result.now ≡ naming.sections_at self.now.templates (option_flatten (slice_get self.now.protocols protocol)) }
+        ensures { result.now
+            ≡ naming.sections_at self.now.templates (option_flatten (slice_get self.now.protocols protocol)) }
     {
         match self.template_of(protocol) {
             Some(place) => match self.templates.get(place) {

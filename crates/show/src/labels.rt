@@ -1,14 +1,11 @@
-ghost use Rattle.std.specs.Prelude.{◌≡◌, ◌++◌, IfOk, OnOk};
+ghost use Rattle.std.specs.Prelude.{◌≡◌, IfOk};
 ghost use Rattle.std.specs.Option.{option_copied};
-ghost use Rattle.show.specs.Labels.{block_at, field_at, field_shown, labels_of, line_at};
+ghost use Rattle.show.specs.Labels.{block_at, field_at, labels_of, line_at};
 ghost use Rattle.show.specs.Labels as naming;
-ghost use Rattle.show.specs.Markup.{written};
 ghost use Rattle.show.specs.Shown.{IsShowable};
 
 use crate::label_walk::protocol_labels;
-use crate::markup::TextForm;
 use crate::naming::{BlockLabel, FieldLabel};
-use crate::value::push_shown;
 use db_model::{Bytes64, CheckedDb, NoMemory, Sequence, ShowTemplate};
 use std::alloc::Global;
 use std::marker::Model;
@@ -102,18 +99,4 @@ pub fn template_of<'a>(db: &'a CheckedDb, label: Option<&FieldLabel>) -> Option<
         },
         None => None,
     }
-}
-
-/// Adds the value of a field of this label as it is shown.
-pub fn push_field_shown(
-    text: &mut Vec<u8>,
-    form: TextForm,
-    db: &CheckedDb,
-    label: Option<&FieldLabel>,
-    value: &[u8],
-) -> Result<(), NoMemory>
-    ensures { OnOk result (text.new.items ≡
-        text.old.items ++ written form (field_shown db.now (option_copied label.entry) value.now)) }
-{
-    push_shown(text, form, template_of(db, label), value)
 }

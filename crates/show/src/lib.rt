@@ -4,13 +4,15 @@
 #![tactic(auto)]
 
 mod label_walk;
+mod labelled;
 mod labels;
 mod markup;
 mod naming;
 mod text;
 mod value;
 
-pub use labels::{Labels, ProtocolLabels, push_field_shown, template_of};
+pub use labelled::{Labelled, push_field_shown};
+pub use labels::{Labels, ProtocolLabels};
 pub use markup::{TextForm, push_written};
 pub use naming::{BlockLabel, BlockNaming, FieldLabel, FieldNaming, push_named};
 pub use text::{push, push_hex, push_number, push_timestamp};

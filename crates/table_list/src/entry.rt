@@ -30,7 +30,14 @@ pub fn added_on_hit(blank: Blank, keys: &Keys, entry: &Entry, t: Stamp) -> Entry
     requires time { t < STAMP_END }
     requires keys { HoldsKeys blank.keys keys.now }
     requires row { HoldsRow blank.row entry.now.row }
-    ensures { result ≡ record { keys = keys.now; masks = None; validity = UpdateOnHit; hit = entry.now.hit; deadline = Some (after_seconds t entry.now.hit); row = entry.now.row } }
+    ensures { result ≡ record {
+      keys = keys.now;
+      masks = None;
+      validity = UpdateOnHit;
+      hit = entry.now.hit;
+      deadline = Some (after_seconds t entry.now.hit);
+      row = entry.now.row;
+    } }
 {
     Entry {
         keys: blank.keys.filled(keys.as_slice()),

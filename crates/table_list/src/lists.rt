@@ -134,7 +134,8 @@ impl Lists {
         requires kept { Kept declaration.now (content self.old) }
         requires keys { HoldsKeys blank.keys keys.now }
         requires row { IfSome (entry_at_place (content self.old) place) (λ e. HoldsRow blank.row e.row) }
-        ensures content { IfSome (entry_at_place (content self.old) place) (λ e. content self.new ≡ renewed_by e.validity declaration.now (content self.old) keys.now t e) }
+        ensures content { IfSome (entry_at_place (content self.old) place) (λ e. content self.new
+            ≡ renewed_by e.validity declaration.now (content self.old) keys.now t e) }
         ensures room { (n : ℕ) → HasRoom (n + 1) self.old → HasRoom n self.new }
     {
         let entry = self.entry(place);
@@ -153,7 +154,8 @@ impl Lists {
 
     fn set_deadline(&mut self, place: Place, deadline: Stamp)
         requires { IsSome (entry_at_place (content self.old) place) }
-        ensures content { IfSome (entry_at_place (content self.old) place) (λ e. content self.new ≡ replaced place (record e { deadline = Some deadline }) (content self.old)) }
+        ensures content { IfSome (entry_at_place (content self.old) place) (λ e. content self.new
+            ≡ replaced place (record e { deadline = Some deadline }) (content self.old)) }
         ensures room { (n : ℕ) → HasRoom n self.old → HasRoom n self.new }
     {
         match place {

@@ -23,7 +23,8 @@ pub fn put(part: &mut Vec<Entry>, limit: u32, entry: Entry)
 
 fn put_last(part: &mut Vec<Entry>, limit: u32, entry: Entry)
     requires { vec_len part.old < vec_capacity part.old }
-    ensures items { part.new.items ≡ (if nat_lt (length part.old.items) limit then part.old.items ++ entry ∷ [] else put_in_full (soonest part.old.items) entry part.old.items) }
+    ensures items { part.new.items ≡ (if nat_lt (length part.old.items) limit then part.old.items
+        ++ entry ∷ [] else put_in_full (soonest part.old.items) entry part.old.items) }
     ensures len { vec_len part.new ≤ vec_len part.old + 1 }
     ensures capacity { vec_capacity part.new ≡ vec_capacity part.old }
 {
@@ -47,7 +48,8 @@ fn evict(part: &mut Vec<Entry>, deadline: Stamp)
 }
 
 fn first_due(part: &[Entry], deadline: Stamp) -> Option<usize>
-    ensures { MatchOption result (evict deadline part.now ≡ part.now) (λ at. (at < length part.now) × (evict deadline part.now ≡ remove part.now at)) }
+    ensures { MatchOption result (evict deadline part.now ≡ part.now) (λ at. (at < length part.now)
+        × (evict deadline part.now ≡ remove part.now at)) }
 {
     for (i, entry) in part.iter().enumerate() {
         if entry.deadline == Some(deadline) {

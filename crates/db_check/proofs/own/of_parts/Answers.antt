@@ -18,8 +18,8 @@ returns c =
     let k = cause_of c.args.kind in
     let keys = key_lines db fields blocks c.args.kind in
     let values = value_lines db fields blocks c.args.kind in
-    let columns : c.columns_of-columns.result.now ≡ columns_in (slice_get db.tables (table_at db c.args.table.now)) =
+    let columns : c.columns_of-columns.result.now ≡ columns_in (slice_get db.tables (table_at db c.args.update.now.table.now)) =
     c.columns_of-columns.ensures ∙ ap columns_in (c.get.ensures.value ∙ ap (slice_get db.tables) (c.table_at-at.ensures.place ∙ ap (table_at db) c.as_slice.ensures.bytes)) in
     c.earlier.ensures
-    ∙ ((λ i. earlier (c.of_keys.ensures i) ((c.of_row.ensures ∙ ap (λ l. first k (over values (column_wants l c.args.row.now))) columns) i))
-    ∙ sym (first_append k (over keys c.args.keys.now) (over values (column_wants (columns_in (slice_get db.tables (table_at db c.args.table.now))) c.args.row.now))))
+    ∙ ((λ i. earlier (c.of_keys.ensures i) ((c.of_row.ensures ∙ ap (λ l. first k (over values (column_wants l c.args.update.now.row.now))) columns) i))
+    ∙ sym (first_append k (over keys c.args.update.now.keys.now) (over values (column_wants (columns_in (slice_get db.tables (table_at db c.args.update.now.table.now))) c.args.update.now.row.now))))

@@ -1,5 +1,4 @@
 use Rattle.std.proofs.Common.{◌∙◌, ap, sym, Some}
-use Rattle.db_model.specs.declared.element.Case.{Case}
 use Rattle.db_model.specs.declared.value.Ty.TheVariants.{Num}
 use Rattle.db_model.specs.LeastFault.{earlier}
 use Rattle.db_model.specs.Lines.{over, at_line}
@@ -7,7 +6,7 @@ use Rattle.db_model.specs.NameFaults.{block_names}
 use Rattle.db_check.specs.Around.{own_in}
 use Rattle.db_check.specs.First.{first}
 use Rattle.db_check.specs.Layer.{own_at}
-use Rattle.db_check.specs.Own.{cause_of, fails, case_fails}
+use Rattle.db_check.specs.Own.{cause_of, fails, case_lines}
 use Rattle.db_check.proofs.FirstFault.{first_append}
 use Rattle.db_check.proofs.FourKinds.{own_switch}
 use Rattle.db_check.proofs.own.own.Goals as goal
@@ -18,7 +17,7 @@ returns-in-Switch c =
     let fields = c.args.around.now.scope.fields.now in
     let blocks = block_names c.args.around.now.protocol.now in
     let k = cause_of c.args.kind in
-    let cases = λ (x : Case). at_line x.line (case_fails c.args.kind x.value x.maxvalue) in
+    let cases = case_lines c.args.kind in
     c.earlier.ensures
     ∙ ((λ i. earlier (c.of_number-in-Switch.ensures i) ((c.of_cases.ensures ∙ ap (λ l. first k (over cases l)) c.as_slice.ensures) i))
     ∙ (sym (first_append k (at_line c.in-Switch.line (fails db fields blocks c.args.kind (Some Num) c.in-Switch.expr)) (over cases c.in-Switch.cases))

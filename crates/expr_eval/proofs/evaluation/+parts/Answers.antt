@@ -1,4 +1,4 @@
-use Rattle.std.proofs.Common.{◌≡◌, ◌∙◌, sym, ap, refl, rules, ℕ, List, map, Bool, true, false, not, length, Ok, Err, Option, None, Some, slice_get, drop, [], ◌+◌, subst, arith}
+use Rattle.std.proofs.Common.{◌≡◌, ◌∙◌, sym, ap, refl, rules, ℕ, List, map, Bool, true, false, not, length, Ok, Err, Option, None, Some, slice_get, drop, [], ◌+◌, subst, arith, if◌then◌else◌}
 use Rattle.db_model.specs.declared.value.Value.{Value}
 use Rattle.db_model.specs.declared.value.Value.TheVariants.{Num, Buf, Proto}
 use Rattle.db_model.specs.Expression as def
@@ -7,35 +7,35 @@ use Rattle.db_model.specs.declared.database.KeyDecl.{KeyDecl}
 use Rattle.db_model.specs.declared.database.TableDecl.{TableDecl}
 use Rattle.db_model.specs.Over.{point}
 use Rattle.expr_eval.specs.declared.end.EvalEnd.TheVariants.{NoMemory as Refused}
-use Rattle.db_model.specs.Expression.{Eval, key_sizes, num, buf, truth, is_so, special_value, value_or_zero, give}
-use Rattle.expr_code.specs.Meaning.{code_val}
+use Rattle.db_model.specs.Expression.{Eval, ◌>>=◌, result, num, buf, truth, is_so, special_value, value_or_zero, give}
+use Rattle.expr_code.specs.Meaning.{code_val, some_in}
 use Rattle.db_model.specs.Numbers.{occurs}
 use Rattle.expr_eval.specs.declared.operand.Operand.TheVariants.{Own}
-use Rattle.expr_eval.specs.Operand.{shown}
-use Rattle.expr_eval.specs.Sources.{sources}
 use Rattle.expr_eval.proofs.Forms.{not_is, and_is, or_is, binary_is, slice_is, to_number_is, length_is, to_bytes_is, has_text_is, look_up_is, number_is, text_is, protocol_is, field_is, special_is, variable_is, column_is, is_present_is}
-use Rattle.expr_eval.proofs.Steps.{same, same_as, recast, gives, refused, then_ok, then_err, then_so, then_not, finish_1, finish_2, finish_3, own_is, Keys_so_far, no_keys_yet, key_unevaluated, key_unmade, key_made, keys_end, keys_fitted, key_missing, keys_then, look_is_fit, drop_some, drop_past, drop_beyond, drop_leaves, drop_all, drop_at, keys_at}
+use Rattle.expr_eval.proofs.Steps.{same, same_as, recast, gives, refused, then_ok, then_err, finish_1, finish_2, own_is, Keys_so_far, no_keys_yet, key_unevaluated, key_unmade, key_made, keys_end, keys_fitted, key_missing, keys_then, look_is_fit, drop_some, drop_past, drop_beyond, drop_leaves, drop_all, drop_at, keys_at}
+use Rattle.expr_eval.proofs.Taken.{then_if, no_number, finish_number, as_operand, is_counted, taken, number_at, field_number_at, number_told, finish_numbers, no_second, no_first, finish_slice, no_from, no_count}
+use Rattle.expr_eval.specs.Evaluates.{number_of}
 use Rattle.expr_eval.proofs.evaluation.+parts.Goals as goal
 
 pub evaluate-returns-in-Not-clause-value : goal.evaluate-returns-in-Not-clause-value
 evaluate-returns-in-Not-clause-value g t c =
     let db = c.args.db.now in
-    same_as db (not_is db c.args.code.now c.in-Not.x c.get.result.now c.in-Not.is c.get.ensures) c.negation.ensures.value
+    same_as db (not_is db c.args.code.now c.in-Not.x c.get.result.now c.in-Not.is c.get.ensures) (as_operand db c.negation.result c.as_operand.ensures c.negation.ensures.value)
 
 pub evaluate-returns-in-And-clause-value : goal.evaluate-returns-in-And-clause-value
 evaluate-returns-in-And-clause-value g t c =
     let db = c.args.db.now in
-    same_as db (and_is db c.args.code.now c.in-And.x c.in-And.y c.get-in-And.result.now c.get-in-And-2.result.now c.in-And.is c.get-in-And.ensures c.get-in-And-2.ensures) c.conjunction.ensures.value
+    same_as db (and_is db c.args.code.now c.in-And.x c.in-And.y c.get-in-And.result.now c.get-in-And-2.result.now c.in-And.is c.get-in-And.ensures c.get-in-And-2.ensures) (as_operand db c.conjunction.result c.as_operand-in-And.ensures c.conjunction.ensures.value)
 
 pub evaluate-returns-in-Or-clause-value : goal.evaluate-returns-in-Or-clause-value
 evaluate-returns-in-Or-clause-value g t c =
     let db = c.args.db.now in
-    same_as db (or_is db c.args.code.now c.in-Or.x c.in-Or.y c.get-in-Or.result.now c.get-in-Or-2.result.now c.in-Or.is c.get-in-Or.ensures c.get-in-Or-2.ensures) c.disjunction.ensures.value
+    same_as db (or_is db c.args.code.now c.in-Or.x c.in-Or.y c.get-in-Or.result.now c.get-in-Or-2.result.now c.in-Or.is c.get-in-Or.ensures c.get-in-Or-2.ensures) (as_operand db c.disjunction.result c.as_operand-in-Or.ensures c.disjunction.ensures.value)
 
 pub evaluate-returns-in-Binary-clause-value : goal.evaluate-returns-in-Binary-clause-value
 evaluate-returns-in-Binary-clause-value g t c =
     let db = c.args.db.now in
-    same_as db (binary_is db c.args.code.now c.in-Binary.x c.in-Binary.y c.get-in-Binary.result.now c.get-in-Binary-2.result.now c.in-Binary.op c.in-Binary.is c.get-in-Binary.ensures c.get-in-Binary-2.ensures) c.operation.ensures.value
+    same_as db (binary_is db c.args.code.now c.in-Binary.x c.in-Binary.y c.get-in-Binary.result.now c.get-in-Binary-2.result.now c.in-Binary.op c.in-Binary.is c.get-in-Binary.ensures c.get-in-Binary-2.ensures) (as_operand db c.operation.result c.as_operand-in-Binary.ensures c.operation.ensures.value)
 
 pub evaluate-returns-in-Slice-clause-value : goal.evaluate-returns-in-Slice-clause-value
 evaluate-returns-in-Slice-clause-value g t c =
@@ -45,12 +45,12 @@ evaluate-returns-in-Slice-clause-value g t c =
 pub evaluate-returns-in-ToNumber-clause-value : goal.evaluate-returns-in-ToNumber-clause-value
 evaluate-returns-in-ToNumber-clause-value g t c =
     let db = c.args.db.now in
-    same_as db (to_number_is db c.args.code.now c.in-ToNumber.x c.get-in-ToNumber.result.now c.in-ToNumber.is c.get-in-ToNumber.ensures) c.to_number.ensures.value
+    same_as db (to_number_is db c.args.code.now c.in-ToNumber.x c.get-in-ToNumber.result.now c.in-ToNumber.is c.get-in-ToNumber.ensures) (as_operand db c.to_number.result c.as_operand-in-ToNumber.ensures c.to_number.ensures.value)
 
 pub evaluate-returns-in-LengthOf-clause-value : goal.evaluate-returns-in-LengthOf-clause-value
 evaluate-returns-in-LengthOf-clause-value g t c =
     let db = c.args.db.now in
-    same_as db (length_is db c.args.code.now c.in-LengthOf.x c.get-in-LengthOf.result.now c.in-LengthOf.is c.get-in-LengthOf.ensures) c.length_of.ensures.value
+    same_as db (length_is db c.args.code.now c.in-LengthOf.x c.get-in-LengthOf.result.now c.in-LengthOf.is c.get-in-LengthOf.ensures) (as_operand db c.length_of.result c.as_operand-in-LengthOf.ensures c.length_of.ensures.value)
 
 pub evaluate-returns-in-ToBytes-clause-value : goal.evaluate-returns-in-ToBytes-clause-value
 evaluate-returns-in-ToBytes-clause-value g t c =
@@ -60,7 +60,7 @@ evaluate-returns-in-ToBytes-clause-value g t c =
 pub evaluate-returns-in-HasText-clause-value : goal.evaluate-returns-in-HasText-clause-value
 evaluate-returns-in-HasText-clause-value g t c =
     let db = c.args.db.now in
-    same_as db (has_text_is db c.args.code.now c.in-HasText.within c.get-in-HasText.result.now c.in-HasText.text c.in-HasText.is c.get-in-HasText.ensures) c.has_text.ensures.value
+    same_as db (has_text_is db c.args.code.now c.in-HasText.within c.get-in-HasText.result.now c.in-HasText.text c.in-HasText.is c.get-in-HasText.ensures) (as_operand db c.has_text.result c.as_operand-in-HasText.ensures c.has_text.ensures.value)
 
 pub evaluate-returns-in-Number-clause-value : goal.evaluate-returns-in-Number-clause-value
 evaluate-returns-in-Number-clause-value g t c =
@@ -100,88 +100,170 @@ evaluate-returns-in-Column-clause-value g t c =
 pub evaluate-returns-in-IsPresent-clause-value : goal.evaluate-returns-in-IsPresent-clause-value
 evaluate-returns-in-IsPresent-clause-value g t c =
     let db = c.args.db.now in
-    same db (is_present_is db c.args.code.now c.in-IsPresent.numbers c.args.env.now c.in-IsPresent.is) (gives db _ (own_is _ _ _ c.presence.ensures))
+    same db (is_present_is db c.args.code.now c.in-IsPresent.numbers c.args.env.now c.in-IsPresent.is) (gives db _ (own_is _ _ _ (c.of_number-in-IsPresent.ensures ∙ ap Own c.presence.ensures)))
 
 pub evaluate-returns-in-LookUp-clause-value : goal.evaluate-returns-in-LookUp-clause-value
 evaluate-returns-in-LookUp-clause-value g t c =
     let db = c.args.db.now in
-    same_as db (look_up_is db c.args.code.now c.in-LookUp.table c.in-LookUp.renew c.in-LookUp.keys c.as_slice.result.now c.in-LookUp.is c.as_slice.ensures) c.look_up.ensures.value
+    same_as db (look_up_is db c.args.code.now c.in-LookUp.table c.in-LookUp.renew c.in-LookUp.keys c.as_slice.result.now c.in-LookUp.is c.as_slice.ensures) (as_operand db c.look_up.result c.as_operand-in-LookUp.ensures c.look_up.ensures.value)
+
+pub evaluate_number-returns-in-Number-clause-value : goal.evaluate_number-returns-in-Number-clause-value
+evaluate_number-returns-in-Number-clause-value g t c =
+    let db = c.args.db.now in
+    same db (number_at db (code_val db c.args.code.now) (Num c.in-Number.n) c.args.env.now (number_is db c.args.code.now c.in-Number.n c.args.env.now c.in-Number.is)) (gives db (Ok c.in-Number.n) refl)
+
+pub evaluate_number-returns-in-IsPresent-clause-value : goal.evaluate_number-returns-in-IsPresent-clause-value
+evaluate_number-returns-in-IsPresent-clause-value g t c =
+    let db = c.args.db.now in
+    same db (number_at db (code_val db c.args.code.now) _ c.args.env.now (is_present_is db c.args.code.now c.in-IsPresent.numbers c.args.env.now c.in-IsPresent.is)) (gives db (Ok (num (truth (some_in c.in-IsPresent.numbers c.args.env.now.present)))) (ap (λ (v : Value). Ok (num v)) (sym c.presence.ensures)))
+
+pub evaluate_number-returns-in-Special-clause-value : goal.evaluate_number-returns-in-Special-clause-value
+evaluate_number-returns-in-Special-clause-value g t c =
+    let db = c.args.db.now in
+    same db (number_at db (code_val db c.args.code.now) _ c.args.env.now (special_is db c.args.code.now c.in-Special.special c.args.env.now c.in-Special.is)) (gives db (Ok (num (special_value c.in-Special.special c.args.env.now))) (ap (λ (n : ℕ). Ok n) (sym c.special_number.ensures)))
+
+pub evaluate_number-returns-in-Variable-clause-value : goal.evaluate_number-returns-in-Variable-clause-value
+evaluate_number-returns-in-Variable-clause-value g t c =
+    let db = c.args.db.now in
+    same db (number_at db (code_val db c.args.code.now) _ c.args.env.now (variable_is db c.args.code.now c.in-Variable.place c.args.env.now c.in-Variable.is)) (gives db (Ok (num (value_or_zero (slice_get c.args.env.now.vars c.in-Variable.place)))) (ap (λ (n : ℕ). Ok n) (sym c.variable_number.ensures)))
+
+pub evaluate_number-returns-in-Not-clause-value : goal.evaluate_number-returns-in-Not-clause-value
+evaluate_number-returns-in-Not-clause-value g t c =
+    let db = c.args.db.now in
+    same_as db (ap number_of (not_is db c.args.code.now c.in-Not.x c.get.result.now c.in-Not.is c.get.ensures)) (is_counted db c.negation.result c.negation.ensures.value)
+
+pub evaluate_number-returns-in-And-clause-value : goal.evaluate_number-returns-in-And-clause-value
+evaluate_number-returns-in-And-clause-value g t c =
+    let db = c.args.db.now in
+    same_as db (ap number_of (and_is db c.args.code.now c.in-And.x c.in-And.y c.get-in-And.result.now c.get-in-And-2.result.now c.in-And.is c.get-in-And.ensures c.get-in-And-2.ensures)) (is_counted db c.conjunction.result c.conjunction.ensures.value)
+
+pub evaluate_number-returns-in-Or-clause-value : goal.evaluate_number-returns-in-Or-clause-value
+evaluate_number-returns-in-Or-clause-value g t c =
+    let db = c.args.db.now in
+    same_as db (ap number_of (or_is db c.args.code.now c.in-Or.x c.in-Or.y c.get-in-Or.result.now c.get-in-Or-2.result.now c.in-Or.is c.get-in-Or.ensures c.get-in-Or-2.ensures)) (is_counted db c.disjunction.result c.disjunction.ensures.value)
+
+pub evaluate_number-returns-in-Binary-clause-value : goal.evaluate_number-returns-in-Binary-clause-value
+evaluate_number-returns-in-Binary-clause-value g t c =
+    let db = c.args.db.now in
+    same_as db (ap number_of (binary_is db c.args.code.now c.in-Binary.x c.in-Binary.y c.get-in-Binary.result.now c.get-in-Binary-2.result.now c.in-Binary.op c.in-Binary.is c.get-in-Binary.ensures c.get-in-Binary-2.ensures)) (is_counted db c.operation.result c.operation.ensures.value)
+
+pub evaluate_number-returns-in-ToNumber-clause-value : goal.evaluate_number-returns-in-ToNumber-clause-value
+evaluate_number-returns-in-ToNumber-clause-value g t c =
+    let db = c.args.db.now in
+    same_as db (ap number_of (to_number_is db c.args.code.now c.in-ToNumber.x c.get-in-ToNumber.result.now c.in-ToNumber.is c.get-in-ToNumber.ensures)) (is_counted db c.to_number.result c.to_number.ensures.value)
+
+pub evaluate_number-returns-in-LengthOf-clause-value : goal.evaluate_number-returns-in-LengthOf-clause-value
+evaluate_number-returns-in-LengthOf-clause-value g t c =
+    let db = c.args.db.now in
+    same_as db (ap number_of (length_is db c.args.code.now c.in-LengthOf.x c.get-in-LengthOf.result.now c.in-LengthOf.is c.get-in-LengthOf.ensures)) (is_counted db c.length_of.result c.length_of.ensures.value)
+
+pub evaluate_number-returns-in-HasText-clause-value : goal.evaluate_number-returns-in-HasText-clause-value
+evaluate_number-returns-in-HasText-clause-value g t c =
+    let db = c.args.db.now in
+    same_as db (ap number_of (has_text_is db c.args.code.now c.in-HasText.within c.get-in-HasText.result.now c.in-HasText.text c.in-HasText.is c.get-in-HasText.ensures)) (is_counted db c.has_text.result c.has_text.ensures.value)
+
+pub evaluate_number-returns-in-LookUp-clause-value : goal.evaluate_number-returns-in-LookUp-clause-value
+evaluate_number-returns-in-LookUp-clause-value g t c =
+    let db = c.args.db.now in
+    same_as db (ap number_of (look_up_is db c.args.code.now c.in-LookUp.table c.in-LookUp.renew c.in-LookUp.keys c.as_slice.result.now c.in-LookUp.is c.as_slice.ensures)) (is_counted db c.look_up.result c.look_up.ensures.value)
+
+pub taken_number-returns-in_err-x-clause-value : goal.taken_number-returns-in_err-x-clause-value
+taken_number-returns-in_err-x-clause-value g t c =
+    let db = c.args.db.now in
+    let r : c.from_residual.result ≡ Err c.in_err-x.field-0.0 = search rules in
+    recast db r (then_err db _ c.in_err-x.field-0.0 c.in_err-x.ensures.value)
+
+pub taken_number-returns-clause-value : goal.taken_number-returns-clause-value
+taken_number-returns-clause-value g t c =
+    let db = c.args.db.now in
+    taken db c.in_ok-x.x c.number.result c.number.ensures c.in_ok-x.ensures.value
 
 pub negation-returns-in_err-x-clause-value : goal.negation-returns-in_err-x-clause-value
 negation-returns-in_err-x-clause-value g t c =
     let db = c.args.db.now in
     let r : c.from_residual.result ≡ Err c.in_err-x.field-0.0 = search rules in
-    recast db r (then_err db _ c.in_err-x.field-0.0 c.in_err-x.ensures.value)
+    recast db r (no_number db (code_val db c.args.x.now) (λ (n : ℕ). give (truth (not (is_so n)))) c.in_err-x.field-0.0 c.in_err-x.ensures.value)
 
 pub negation-returns-clause-value : goal.negation-returns-clause-value
 negation-returns-clause-value g t c =
     let db = c.args.db.now in
-    finish_1 db (λ v. Ok (truth (not (is_so (num v))))) c.in_ok-x.x c.in_ok-x.ensures.value (own_is _ _ _ (c.of_truth.ensures ∙ ap (λ (b : Bool). Own (truth (not b))) (c.is_so.ensures (sources c.evaluate.new.env))))
+    finish_number db (code_val db c.args.x.now) (λ (n : ℕ). Ok (truth (not (is_so n)))) c.in_ok-x.x c.in_ok-x.ensures.value (number_told (c.of_truth.ensures ∙ ap (λ (b : Bool). truth (not b)) c.is_so.ensures))
 
 pub conjunction-returns-in_err-x-clause-value : goal.conjunction-returns-in_err-x-clause-value
 conjunction-returns-in_err-x-clause-value g t c =
     let db = c.args.db.now in
     let r : c.from_residual.result ≡ Err c.in_err-x.field-0.0 = search rules in
-    recast db r (then_err db _ c.in_err-x.field-0.0 c.in_err-x.ensures.value)
+    recast db r (no_number db (code_val db c.args.x.now) (λ (n : ℕ). if is_so n then (code_val db c.args.y.now >>= (λ w. give (truth (is_so (num w))))) else give (Num 0)) c.in_err-x.field-0.0 c.in_err-x.ensures.value)
 
 pub conjunction-returns-then-not-is_so-clause-value : goal.conjunction-returns-then-not-is_so-clause-value
 conjunction-returns-then-not-is_so-clause-value g t c =
     let db = c.args.db.now in
-    let b : is_so (num (shown (sources c.args.env.now) c.in_ok-x.x)) ≡ false = sym (c.is_so.ensures (sources c.args.env.now)) ∙ c.if-not-is_so.true in
-    then_not db _ c.in_ok-x.x c.in_ok-x.ensures.value b (gives db (Ok (Num 0)) (own_is _ (Num 0) _ c.of_number.ensures))
+    then_if db (code_val db c.args.x.now) (code_val db c.args.y.now >>= (λ w. give (truth (is_so (num w))))) (give (Num 0)) c.in_ok-x.x false c.in_ok-x.ensures.value (sym c.is_so.ensures ∙ c.if-not-is_so.true) (gives db (Ok (Num 0)) refl)
 
 pub conjunction-returns-in_err-y-clause-value : goal.conjunction-returns-in_err-y-clause-value
 conjunction-returns-in_err-y-clause-value g t c =
     let db = c.args.db.now in
     let r : c.from_residual-in_err-y.result ≡ Err c.in_err-y.field-0.0 = search rules in
-    let b : is_so (num (shown (sources c.args.env.now) c.in_ok-x.x)) ≡ true = sym (c.is_so.ensures (sources c.args.env.now)) ∙ c.if-not-is_so.false in
-    recast db r (then_so db _ c.in_ok-x.x c.in_ok-x.ensures.value b (then_err db _ c.in_err-y.field-0.0 c.in_err-y.ensures.value))
+    recast db r (then_if db (code_val db c.args.x.now) (code_val db c.args.y.now >>= (λ w. give (truth (is_so (num w))))) (give (Num 0)) c.in_ok-x.x true c.in_ok-x.ensures.value (sym c.is_so.ensures ∙ c.if-not-is_so.false) (no_number db (code_val db c.args.y.now) (λ (n : ℕ). give (truth (is_so n))) c.in_err-y.field-0.0 c.in_err-y.ensures.value))
 
 pub conjunction-returns-clause-value : goal.conjunction-returns-clause-value
 conjunction-returns-clause-value g t c =
     let db = c.args.db.now in
-    let b : is_so (num (shown (sources c.args.env.now) c.in_ok-x.x)) ≡ true = sym (c.is_so.ensures (sources c.args.env.now)) ∙ c.if-not-is_so.false in
-    then_so db _ c.in_ok-x.x c.in_ok-x.ensures.value b (finish_1 db (λ v. Ok (truth (is_so (num v)))) c.in_ok-y.y c.in_ok-y.ensures.value (own_is _ _ _ (c.of_truth.ensures ∙ ap (λ (b : Bool). Own (truth b)) (c.is_so-2.ensures (sources c.evaluate-2.new.env)))))
+    then_if db (code_val db c.args.x.now) (code_val db c.args.y.now >>= (λ w. give (truth (is_so (num w))))) (give (Num 0)) c.in_ok-x.x true c.in_ok-x.ensures.value (sym c.is_so.ensures ∙ c.if-not-is_so.false) (finish_number db (code_val db c.args.y.now) (λ (n : ℕ). Ok (truth (is_so n))) c.in_ok-y.y c.in_ok-y.ensures.value (number_told (c.of_truth.ensures ∙ ap truth c.is_so-2.ensures)))
 
 pub disjunction-returns-in_err-x-clause-value : goal.disjunction-returns-in_err-x-clause-value
 disjunction-returns-in_err-x-clause-value g t c =
     let db = c.args.db.now in
     let r : c.from_residual.result ≡ Err c.in_err-x.field-0.0 = search rules in
-    recast db r (then_err db _ c.in_err-x.field-0.0 c.in_err-x.ensures.value)
+    recast db r (no_number db (code_val db c.args.x.now) (λ (n : ℕ). if is_so n then give (Num 1) else (code_val db c.args.y.now >>= (λ w. give (truth (is_so (num w)))))) c.in_err-x.field-0.0 c.in_err-x.ensures.value)
 
 pub disjunction-returns-then-is_so-clause-value : goal.disjunction-returns-then-is_so-clause-value
 disjunction-returns-then-is_so-clause-value g t c =
     let db = c.args.db.now in
-    let b : is_so (num (shown (sources c.args.env.now) c.in_ok-x.x)) ≡ true = sym (c.is_so.ensures (sources c.args.env.now)) ∙ c.if-is_so.true in
-    then_so db _ c.in_ok-x.x c.in_ok-x.ensures.value b (gives db (Ok (Num 1)) (own_is _ (Num 1) _ c.of_number.ensures))
+    then_if db (code_val db c.args.x.now) (give (Num 1)) (code_val db c.args.y.now >>= (λ w. give (truth (is_so (num w))))) c.in_ok-x.x true c.in_ok-x.ensures.value (sym c.is_so.ensures ∙ c.if-is_so.true) (gives db (Ok (Num 1)) refl)
 
 pub disjunction-returns-in_err-y-clause-value : goal.disjunction-returns-in_err-y-clause-value
 disjunction-returns-in_err-y-clause-value g t c =
     let db = c.args.db.now in
     let r : c.from_residual-in_err-y.result ≡ Err c.in_err-y.field-0.0 = search rules in
-    let b : is_so (num (shown (sources c.args.env.now) c.in_ok-x.x)) ≡ false = sym (c.is_so.ensures (sources c.args.env.now)) ∙ c.if-is_so.false in
-    recast db r (then_not db _ c.in_ok-x.x c.in_ok-x.ensures.value b (then_err db _ c.in_err-y.field-0.0 c.in_err-y.ensures.value))
+    recast db r (then_if db (code_val db c.args.x.now) (give (Num 1)) (code_val db c.args.y.now >>= (λ w. give (truth (is_so (num w))))) c.in_ok-x.x false c.in_ok-x.ensures.value (sym c.is_so.ensures ∙ c.if-is_so.false) (no_number db (code_val db c.args.y.now) (λ (n : ℕ). give (truth (is_so n))) c.in_err-y.field-0.0 c.in_err-y.ensures.value))
 
 pub disjunction-returns-clause-value : goal.disjunction-returns-clause-value
 disjunction-returns-clause-value g t c =
     let db = c.args.db.now in
-    let b : is_so (num (shown (sources c.args.env.now) c.in_ok-x.x)) ≡ false = sym (c.is_so.ensures (sources c.args.env.now)) ∙ c.if-is_so.false in
-    then_not db _ c.in_ok-x.x c.in_ok-x.ensures.value b (finish_1 db (λ v. Ok (truth (is_so (num v)))) c.in_ok-y.y c.in_ok-y.ensures.value (own_is _ _ _ (c.of_truth.ensures ∙ ap (λ (b : Bool). Own (truth b)) (c.is_so-2.ensures (sources c.evaluate-2.new.env)))))
+    then_if db (code_val db c.args.x.now) (give (Num 1)) (code_val db c.args.y.now >>= (λ w. give (truth (is_so (num w))))) c.in_ok-x.x false c.in_ok-x.ensures.value (sym c.is_so.ensures ∙ c.if-is_so.false) (finish_number db (code_val db c.args.y.now) (λ (n : ℕ). Ok (truth (is_so n))) c.in_ok-y.y c.in_ok-y.ensures.value (number_told (c.of_truth.ensures ∙ ap truth c.is_so-2.ensures)))
 
 pub operation-returns-in_err-x-clause-value : goal.operation-returns-in_err-x-clause-value
 operation-returns-in_err-x-clause-value g t c =
     let db = c.args.db.now in
     let r : c.from_residual.result ≡ Err c.in_err-x.field-0.0 = search rules in
-    recast db r (then_err db _ c.in_err-x.field-0.0 c.in_err-x.ensures.value)
+    recast db r (no_first db (code_val db c.args.parts.0.now) (code_val db c.args.parts.1.now) c.args.op c.in_err-x.field-0.0 (c.by_numbers.ensures db c.if-not-by_numbers.false) c.in_err-x.ensures.value)
 
 pub operation-returns-in_err-y-clause-value : goal.operation-returns-in_err-y-clause-value
 operation-returns-in_err-y-clause-value g t c =
     let db = c.args.db.now in
     let r : c.from_residual-in_err-y.result ≡ Err c.in_err-y.field-0.0 = search rules in
-    recast db r (then_ok db _ c.in_ok-x.x c.in_ok-x.ensures.value (then_err db _ c.in_err-y.field-0.0 c.in_err-y.ensures.value))
+    recast db r (no_second db (code_val db c.args.parts.0.now) (code_val db c.args.parts.1.now) c.args.op c.in_ok-x.x c.in_err-y.field-0.0 (c.by_numbers.ensures db c.if-not-by_numbers.false) c.in_ok-x.ensures.value c.in_err-y.ensures.value)
 
 pub operation-returns-clause-value : goal.operation-returns-clause-value
 operation-returns-clause-value g t c =
+    let db = c.args.db.now in
+    finish_numbers db (code_val db c.args.parts.0.now) (code_val db c.args.parts.1.now) c.args.op c.in_ok-x.x c.in_ok-y.y (c.by_numbers.ensures db c.if-not-by_numbers.false) c.in_ok-x.ensures.value c.in_ok-y.ensures.value c.of_numbers.ensures
+
+pub comparison-returns-in_err-x-clause-value : goal.comparison-returns-in_err-x-clause-value
+comparison-returns-in_err-x-clause-value g t c =
+    let db = c.args.db.now in
+    let r : c.from_residual.result ≡ Err c.in_err-x.field-0.0 = search rules in
+    recast db r (then_err db _ c.in_err-x.field-0.0 c.in_err-x.ensures.value)
+
+pub comparison-returns-in_err-y-clause-value : goal.comparison-returns-in_err-y-clause-value
+comparison-returns-in_err-y-clause-value g t c =
+    let db = c.args.db.now in
+    let r : c.from_residual-in_err-y.result ≡ Err c.in_err-y.field-0.0 = search rules in
+    recast db r (then_ok db _ c.in_ok-x.x c.in_ok-x.ensures.value (then_err db _ c.in_err-y.field-0.0 c.in_err-y.ensures.value))
+
+pub comparison-returns-clause-value : goal.comparison-returns-clause-value
+comparison-returns-clause-value g t c =
     let db = c.args.db.now in
     finish_2 db (def.binary c.args.op) c.in_ok-x.x c.in_ok-y.y c.in_ok-x.ensures.value c.in_ok-y.ensures.value c.binary.ensures
 
@@ -195,27 +277,32 @@ pub slice-returns-in_err-from-clause-value : goal.slice-returns-in_err-from-clau
 slice-returns-in_err-from-clause-value g t c =
     let db = c.args.db.now in
     let r : c.from_residual-in_err-from.result ≡ Err c.in_err-from.field-0.0 = search rules in
-    recast db r (then_ok db _ c.in_ok-base.base c.in_ok-base.ensures.value (then_err db _ c.in_err-from.field-0.0 c.in_err-from.ensures.value))
+    recast db r (no_from db (code_val db c.args.base.now) (code_val db c.args.range.0.now) (code_val db c.args.range.1.now) c.in_ok-base.base c.in_err-from.field-0.0 c.in_ok-base.ensures.value c.in_err-from.ensures.value)
 
 pub slice-returns-in_err-count-clause-value : goal.slice-returns-in_err-count-clause-value
 slice-returns-in_err-count-clause-value g t c =
     let db = c.args.db.now in
     let r : c.from_residual-in_err-count.result ≡ Err c.in_err-count.field-0.0 = search rules in
-    recast db r (then_ok db _ c.in_ok-base.base c.in_ok-base.ensures.value (then_ok db _ c.in_ok-from.from c.in_ok-from.ensures.value (then_err db _ c.in_err-count.field-0.0 c.in_err-count.ensures.value)))
+    recast db r (no_count db (code_val db c.args.base.now) (code_val db c.args.range.0.now) (code_val db c.args.range.1.now) c.in_ok-base.base c.in_ok-from.from c.in_err-count.field-0.0 c.in_ok-base.ensures.value c.in_ok-from.ensures.value c.in_err-count.ensures.value)
 
 pub slice-returns-clause-value : goal.slice-returns-clause-value
 slice-returns-clause-value g t c =
     let db = c.args.db.now in
-    finish_3 db (λ v w n. def.slice (buf v) (num w) (num n)) c.in_ok-base.base c.in_ok-from.from c.in_ok-count.count c.in_ok-base.ensures.value c.in_ok-from.ensures.value c.in_ok-count.ensures.value c.slice.ensures
+    finish_slice db (code_val db c.args.base.now) (code_val db c.args.range.0.now) (code_val db c.args.range.1.now) c.in_ok-base.base c.in_ok-from.from c.in_ok-count.count c.in_ok-base.ensures.value c.in_ok-from.ensures.value c.in_ok-count.ensures.value c.slice.ensures
 
-pub to_number-returns-in_err-x-clause-value : goal.to_number-returns-in_err-x-clause-value
-to_number-returns-in_err-x-clause-value g t c =
+pub to_number-returns-in-Field-clause-value : goal.to_number-returns-in-Field-clause-value
+to_number-returns-in-Field-clause-value g t c =
+    let db = c.args.db.now in
+    same db (field_number_at db (code_val db c.args.x.now) _ c.args.env.now (field_is db c.args.x.now c.in-Field.numbers c.args.env.now c.in-Field.is)) (gives db _ c.field_number.ensures)
+
+pub converted-returns-in_err-x-clause-value : goal.converted-returns-in_err-x-clause-value
+converted-returns-in_err-x-clause-value g t c =
     let db = c.args.db.now in
     let r : c.from_residual.result ≡ Err c.in_err-x.field-0.0 = search rules in
     recast db r (then_err db _ c.in_err-x.field-0.0 c.in_err-x.ensures.value)
 
-pub to_number-returns-clause-value : goal.to_number-returns-clause-value
-to_number-returns-clause-value g t c =
+pub converted-returns-clause-value : goal.converted-returns-clause-value
+converted-returns-clause-value g t c =
     let db = c.args.db.now in
     finish_1 db (λ v. def.to_number (buf v)) c.in_ok-x.x c.in_ok-x.ensures.value c.to_number.ensures
 
@@ -228,18 +315,18 @@ length_of-returns-in_err-x-clause-value g t c =
 pub length_of-returns-clause-value : goal.length_of-returns-clause-value
 length_of-returns-clause-value g t c =
     let db = c.args.db.now in
-    finish_1 db (λ v. Ok (Num (length (buf v)))) c.in_ok-x.x c.in_ok-x.ensures.value (own_is _ _ _ c.length_of.ensures)
+    finish_1 db (λ v. Ok (Num (length (buf v)))) c.in_ok-x.x c.in_ok-x.ensures.value (ap (λ (n : ℕ). Ok (Num n)) (sym c.length_of.ensures))
 
 pub to_bytes-returns-in_err-x-clause-value : goal.to_bytes-returns-in_err-x-clause-value
 to_bytes-returns-in_err-x-clause-value g t c =
     let db = c.args.db.now in
     let r : c.from_residual.result ≡ Err c.in_err-x.field-0.0 = search rules in
-    recast db r (then_err db _ c.in_err-x.field-0.0 c.in_err-x.ensures.value)
+    recast db r (no_number db (code_val db c.args.x.now) (λ (n : ℕ). result (def.in_bytes c.args.size n)) c.in_err-x.field-0.0 c.in_err-x.ensures.value)
 
 pub to_bytes-returns-clause-value : goal.to_bytes-returns-clause-value
 to_bytes-returns-clause-value g t c =
     let db = c.args.db.now in
-    finish_1 db (λ v. def.in_bytes c.args.size (num v)) c.in_ok-x.x c.in_ok-x.ensures.value (c.to_bytes.ensures _)
+    finish_number db (code_val db c.args.x.now) (def.in_bytes c.args.size) c.in_ok-x.x c.in_ok-x.ensures.value (c.to_bytes.ensures _)
 
 pub has_text-returns-in_err-x-clause-value : goal.has_text-returns-in_err-x-clause-value
 has_text-returns-in_err-x-clause-value g t c =
@@ -250,7 +337,7 @@ has_text-returns-in_err-x-clause-value g t c =
 pub has_text-returns-clause-value : goal.has_text-returns-clause-value
 has_text-returns-clause-value g t c =
     let db = c.args.db.now in
-    finish_1 db (λ v. Ok (truth (occurs c.args.text.now (buf v)))) c.in_ok-x.x c.in_ok-x.ensures.value (own_is _ _ _ c.has_text.ensures)
+    finish_1 db (λ v. Ok (truth (occurs c.args.text.now (buf v)))) c.in_ok-x.x c.in_ok-x.ensures.value (number_told c.has_text.ensures)
 
 pub look_up-returns-in_err-keys-in-Some-clause-value : goal.look_up-returns-in_err-keys-in-Some-clause-value
 look_up-returns-in_err-keys-in-Some-clause-value g t c =

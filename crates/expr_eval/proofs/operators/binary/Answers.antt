@@ -1,14 +1,4 @@
-use Rattle.std.proofs.Common.{◌≡◌, subst, Result}
-use Rattle.db_model.specs.declared.tree.Reason.{Reason}
-use Rattle.db_model.specs.declared.value.Value.{Value}
-use Rattle.db_model.specs.Expression as def
-use Rattle.expr_eval.specs.Evaluates.{Gave}
-use Rattle.expr_eval.specs.Operand.{shown}
-use Rattle.expr_eval.specs.Sources.{sources}
 use Rattle.expr_eval.proofs.operators.binary.Goals as goal
 
 pub returns : goal.returns
-returns c =
-    let p = sources c.args.env.now in
-    let e : c.binary.result ≡ def.binary c.args.op (shown p c.args.x.now) (shown p c.args.y.now) = cc in
-    subst (λ (r : Result Value Reason). Gave (shown p) r c.own.result) e (c.own.ensures p)
+returns c = rw c.view-y.ensures at (rw c.view-x.ensures at c.binary.ensures)

@@ -1,4 +1,4 @@
 use Rattle.npd_top.proofs.packets.write_named.Given as goal
 
-abbrev pub ghosts-write_counted : goal.ghosts-write_counted
-ghosts-write_counted g a = record { name = a.blank.name; parts = a.blank.parts }
+abbrev pub ghosts-run : goal.ghosts-run
+ghosts-run g a = record { name = a.blank.name; parts = a.blank.parts }

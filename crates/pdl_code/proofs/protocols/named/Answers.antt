@@ -8,11 +8,12 @@ use Rattle.pdl_code.proofs.protocols.named.Goals as goal
 
 pub loop-block-preserved : goal.loop-block-preserved
 loop-block-preserved c =
-    let db = c.args.db.now in
-    let q = c.args.number in
+    let s = c.args.scope.now in
+    let db = s.db.now in
+    let q = s.protocol in
     let x = c.block-item.result in
     let inside = c.in_ok-inside.inside in
-    let w = as_list db q c.as_slice.result.now x.body c.loop-block.ops c.list.new.ops inside c.in_ok-to.to c.as_slice.ensures c.in_ok-to.ensures in
+    let w = as_list s c.as_slice.result.now x.body c.loop-block.ops c.list.new.ops inside c.in_ok-to.to c.as_slice.ensures c.in_ok-to.ensures in
     let long : length c.push-in-loop-block.new.self ≡ length c.loop-block.ops + length (ended (codes_in db q x.body (plus (counts c.loop-block.to) a_block))) =
     ended_length c.loop-block.ops (codes_in db q x.body (counts inside)) c.list.new.ops c.push-in-loop-block.new.self w.ops c.in_ok-push-2.ensures.ok
     ∙ ap (λ k. length c.loop-block.ops + length (ended (codes_in db q x.body k))) c.in_ok-inside.ensures in

@@ -5,6 +5,6 @@ use Rattle.pdl_code.proofs.protocols.named.Given as goal
 
 abbrev pub invariant-loop-block : goal.invariant-loop-block
 invariant-loop-block l = record {
-  written : l.ops ++ block_codes l.db l.number (drop l.block-index l.blocks) (counts l.to) ≡ l.fn.ops ++ block_codes l.db l.number l.blocks (counts l.fn.at);
-  begun : l.starts ++ block_starts l.db l.number (length l.ops) (drop l.block-index l.blocks) (counts l.to) ≡ block_starts l.db l.number (length l.fn.ops) l.blocks (counts l.fn.at);
+  written : l.ops ++ block_codes l.scope.db.now l.scope.protocol (drop l.block-index l.blocks) (counts l.to) ≡ l.fn.ops ++ block_codes l.scope.db.now l.scope.protocol l.blocks (counts l.fn.at);
+  begun : l.starts ++ block_starts l.scope.db.now l.scope.protocol (length l.ops) (drop l.block-index l.blocks) (counts l.to) ≡ block_starts l.scope.db.now l.scope.protocol (length l.fn.ops) l.blocks (counts l.fn.at);
 }

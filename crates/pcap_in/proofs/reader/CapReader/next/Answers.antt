@@ -48,7 +48,7 @@ returns-in-Ok-End g c =
       reach = reach-same r.number r.offset _ _ _ (FrontIs-ahead _ _ _ _ read.gave.front) within;
       again = search rules;
       stamp = search rules;
-      inputs = read;
+      inputs = record { bytes = read.bytes; gave = read.gave; taken = (read.taken, refl) };
       frame = search rules;
       cause = search rules;
     })
@@ -96,7 +96,7 @@ returns-in-Err g c =
       inputs = record {
         bytes = read.bytes;
         gave = read.gave;
-        taken = Takes-refusal c.in-Err.fail r.form r.number _ read.taken;
+        taken = Takes-refusal c.in-Err.fail r.form r.number _ [] read.taken;
       };
       frame = search rules;
       cause = λ e. c.in-Err.ensures.cause (ap Err (refusal-failed c.in-Err.fail (cc)));
