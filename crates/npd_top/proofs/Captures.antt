@@ -5,23 +5,24 @@ use Rattle.npd_host.specs.Host.{Outputs, NoneFalls}
 use Rattle.pcap_in.specs.Reader.{Reader}
 use Rattle.npd_top.specs.declared.job.DecodeFiles.{DecodeFiles}
 use Rattle.npd_top.specs.declared.job.Job.{Job}
-use Rattle.npd_top.specs.declared.status.Status.{Status}
+use Rattle.pipeline.specs.declared.status.Status.{Status}
 use Rattle.npd_top.specs.Accepted.{IsAccepted}
 use Rattle.npd_top.specs.CaptureRun.{CaptureRuns}
 use Rattle.npd_top.specs.DecodeRun.{DecodeSays, DecodeOpens}
 use Rattle.npd_top.specs.Outside.{Outside, KeepsIds}
-use Rattle.npd_top.specs.Packets.{OpensNames}
-use Rattle.npd_top.specs.Run.{HasCause}
+use Rattle.pipeline.specs.Packets.{OpensNames}
+use Rattle.npd_top.specs.Doings.{serves}
+use Rattle.pipeline.specs.Causes.{HasCause}
 use Rattle.npd_top.proofs.Causes.{cause_unopened, cause_decoded, opens_unopened, opens_decoded, two_more}
 use Rattle.npd_top.proofs.Runs.{Rests, says_unopened, says_decoded}
 
 -- before the run, behind the loading, and at the end
 module _ (status : Status) (files : DecodeFiles) (db : model.Database) (before mid after : Outside) (outputs : mid.outputs ≡ before.outputs) (runs : CaptureRuns status files db mid after) where
-  pub cause_captured : NoneFalls before.faults mid.faults → HasCause status (Job.Decode files) before after
+  pub cause_captured : NoneFalls before.faults mid.faults → HasCause (serves (Job.Decode files)) before.faults after.faults status
   cause_captured later =
       ⊎_elim
-      (λ closed. cause_unopened status files before after mid.faults later closed.cause)
-      (λ decoded. cause_decoded status files before after decoded.faults (λ kind name. omega (arith, later kind name, decoded.later kind name)) decoded.cause) runs
+      (λ closed. cause_unopened files status before.faults mid.faults after.faults later closed.cause)
+      (λ decoded. cause_decoded files status before.faults decoded.faults after.faults (λ kind name. omega (arith, later kind name, decoded.later kind name)) decoded.cause) runs
 
   pub opens_captured : mid.inputs.opened ≡ before.inputs.opened ++ files.db ∷ [] → DecodeOpens status files before after
   opens_captured read =

@@ -5,15 +5,16 @@ use Rattle.db_model.specs.declared.database.Database as model
 use Rattle.db_text.specs.Refusal as text
 use Rattle.db_text.specs.declared.limits.TheConstants.{MOST_TEXT_BYTES}
 use Rattle.npd_top.specs.declared.job.CheckFiles.{CheckFiles}
-use Rattle.npd_top.specs.declared.status.Role.TheVariants.{Db, Cap, Pdml, Psml, Trace, Out}
-use Rattle.npd_top.specs.declared.status.Status.{Status}
-use Rattle.npd_top.specs.declared.status.Status.TheVariants.{Done, Words, Open, Read, Write, Database, Capture, PacketLimit, NoMemory, Unbuilt}
+use Rattle.pipeline.specs.declared.status.Role.TheVariants.{Db, Cap, Pdml, Psml, Trace, Out}
+use Rattle.pipeline.specs.declared.status.Status.{Status}
+use Rattle.pipeline.specs.declared.status.Status.TheVariants.{Done, Words, Open, Read, Write, Database, Capture, PacketLimit, NoMemory, Unbuilt}
 use Rattle.npd_top.specs.declared.totals.Totals.{Totals}
 use Rattle.npd_top.specs.Accepted.{HasAccepted}
-use Rattle.npd_top.specs.CheckRun.{FindsAccepted, CheckSays, CheckOpens, totals_of, totals_line, standard}
+use Rattle.npd_top.specs.CheckRun.{FindsAccepted, CheckSays, CheckOpens, totals_of, totals_line}
 use Rattle.npd_top.specs.Loaded.{DatabaseIs, TotalsAre}
-use Rattle.npd_top.specs.Outside.{Outside, OpensOne, FrontOf}
-use Rattle.npd_top.specs.Written.{WroteFront, WroteProper, WritesLine}
+use Rattle.npd_top.specs.Outside.{Outside, FrontOf}
+use Rattle.pipeline.specs.Opened.{OpensOne}
+use Rattle.npd_top.specs.Line.{standard, WroteFront, WroteProper, WritesLine}
 
 -- a front that is longer than any text of a database is refused, and so is the whole
 long-refused : (front whole : List ℕ) (line code : ℕ) → MOST_TEXT_BYTES < length front → length front ≤ length whole → text.IsRefused front line code → text.IsRefused whole line code

@@ -1,5 +1,5 @@
 -- Where nothing stands in the way, a run ends well.
-use Rattle.std.proofs.Common.{◌≡◌, ℕ, List, Option, Some, None, Ok, Err, refl, sym, ap, ◌∙◌, inl, inr, ◌⊎◌, ⊎_elim, IfSome, subst}
+use Rattle.std.proofs.Common.{◌≡◌, ℕ, List, Option, Some, None, Result, Ok, Err, refl, sym, ap, ◌∙◌, inl, inr, ◌⊎◌, ⊎_elim, IfSome, subst}
 use Rattle.std.specs.Prelude.{IsSomeAnd}
 use Rattle.db_model.specs.declared.database.Database as model
 use Rattle.db_model.specs.Objection.{objection}
@@ -13,18 +13,21 @@ use Rattle.npd_top.specs.declared.job.CheckFiles.{CheckFiles}
 use Rattle.npd_top.specs.declared.job.DecodeFiles.{DecodeFiles}
 use Rattle.npd_top.specs.declared.job.Job.{Job}
 use Rattle.npd_top.specs.declared.job.Job.TheVariants.{Decode, Check}
-use Rattle.npd_top.specs.declared.status.Part.TheVariants as part
-use Rattle.npd_top.specs.declared.status.Status.{Status}
-use Rattle.npd_top.specs.declared.status.Status.TheVariants.{Done, Words, Open, Read, Write, Database, Capture, PacketLimit, NoMemory, Unbuilt}
+use Rattle.pipeline.specs.declared.status.Part.TheVariants as part
+use Rattle.pipeline.specs.declared.status.Status.{Status}
+use Rattle.pipeline.specs.declared.status.Status.TheVariants.{Done, Words, Open, Read, Write, Database, Capture, PacketLimit, NoMemory, Unbuilt}
 use Rattle.npd_top.specs.Accepted.{IsAccepted, HasAccepted, IsRefused}
 use Rattle.npd_top.specs.CheckRun.{CheckSays}
-use Rattle.npd_top.specs.DecodeRun.{IsBroken, IsLimited, DecodeSays}
+use Rattle.npd_top.specs.DecodeRun.{ByHeader, IsBroken, HaveTaken, DecodeSays}
+use Rattle.pcap_in.specs.declared.form.Form.{Form}
 use Rattle.npd_top.specs.Jobs.{job_of, Asks, AsksUnbuilt, AreFaulty}
 use Rattle.npd_top.specs.Laws.{NoneRose, CanDecode, CanCheck, CanServe, EndsWell}
 use Rattle.npd_top.specs.Outside.{Outside}
-use Rattle.npd_top.specs.Run.{name_of, opening_call, HasCause, Says, RunsJob}
-use Rattle.npd_top.proofs.Told.{none_is_some}
+use Rattle.npd_top.specs.Run.{Says, RunsJob}
+use Rattle.pipeline.proofs.Told.{none_is_some}
 use Rattle.db_load.specs.Laws.{OneDatabase, ExcludesFault}
+use Rattle.pipeline.specs.Causes.{opening_call, HasCause}
+use Rattle.npd_top.specs.Doings.{name_of, serves}
 
 -- what a file isn't, where it is told
 not_so : (file : Option (List ℕ)) (text : List ℕ) (P : List ℕ → Type 0) → file ≡ Some text → (P text → ⊥) → IfSome file P → ⊥
@@ -57,13 +60,18 @@ whole_is_broken offset code e = cc
 whole_is_limit : ◌≡◌ {A = capture.End} capture.Whole capture.Limit → ⊥
 whole_is_limit e = cc
 
+-- it ends so with a file header or without one
+broken_end : (header : Result Form capture.End) (Same Without With : Type 0) → ByHeader header (Same × Without) (Same × With) → Same
+broken_end (Ok form) Same Without With is = is.0
+broken_end (Err end) Same Without With is = is.0
+
 -- no count rose, of whatever file
 none_rose : (kind : CallKind) (name : Option (List ℕ)) (before after : Outside) → NoneRose before after → IsSomeAnd name (λ n. Rose (before.faults kind n) (after.faults kind n)) → ⊥
 none_rose kind None before after none rose = rose
 none_rose kind (Some n) before after none rose = none kind n rose
 
 -- a decode that can be served, and no count rose
-decode_ends : OneAnswer → (status : Status) (files : DecodeFiles) (before after : Outside) → CanDecode files before → NoneRose before after → DecodeSays status files before after → HasCause status (Decode files) before after → (status ≡ Done) ⊎ (status ≡ NoMemory)
+decode_ends : OneAnswer → (status : Status) (files : DecodeFiles) (before after : Outside) → CanDecode files before → NoneRose before after → DecodeSays status files before after → HasCause (serves (Decode files)) before.faults after.faults status → (status ≡ Done) ⊎ (status ≡ NoMemory)
 decode_ends one Done files before after can none says cause = inl refl
 decode_ends one (Words index code) files before after can none says cause = absurd says
 decode_ends one (Open role) files before after can none says cause = absurd (none_rose (opening_call role) (name_of (Decode files) role) before after none cause)
@@ -72,14 +80,14 @@ decode_ends one (Write role) files before after can none says cause = absurd (no
 decode_ends one (Database line code) files before after can none says cause =
     absurd (not_so (before.files files.db) can.text (λ text. IsRefused text line code) can.db_is (not_refused one can.text can.accepted.db line code can.accepted.is) says.1)
 decode_ends one (Capture offset code) files before after can none says cause =
-    absurd (not_found (before.files files.db) (before.files files.cap) can.text can.bytes (IsBroken files before after offset code) can.db_is can.cap_is (λ d is. whole_is_broken offset code (sym can.whole ∙ is.0)) says)
+    absurd (not_found (before.files files.db) (before.files files.cap) can.text can.bytes (IsBroken files before after offset code) can.db_is can.cap_is (λ d is. whole_is_broken offset code (sym can.whole ∙ broken_end (capture.header can.bytes) _ _ _ is)) says)
 decode_ends one (PacketLimit max) files before after can none says cause =
-    absurd (not_found (before.files files.db) (before.files files.cap) can.text can.bytes (IsLimited files before after max) can.db_is can.cap_is (λ d is. whole_is_limit (sym can.whole ∙ is.1)) says)
+    absurd (not_found (before.files files.db) (before.files files.cap) can.text can.bytes (HaveTaken files before after files.outputs (PacketLimit max)) can.db_is can.cap_is (λ d is. whole_is_limit (sym can.whole ∙ is.1)) says)
 decode_ends one NoMemory files before after can none says cause = inr refl
 decode_ends one (Unbuilt which) files before after can none says cause = absurd says
 
 -- a check that can be served, and no count rose
-check_ends : OneAnswer → (status : Status) (files : CheckFiles) (before after : Outside) → CanCheck files before → NoneRose before after → CheckSays status files before after → HasCause status (Check files) before after → (status ≡ Done) ⊎ (status ≡ NoMemory)
+check_ends : OneAnswer → (status : Status) (files : CheckFiles) (before after : Outside) → CanCheck files before → NoneRose before after → CheckSays status files before after → HasCause (serves (Check files)) before.faults after.faults status → (status ≡ Done) ⊎ (status ≡ NoMemory)
 check_ends one Done files before after can none says cause = inl refl
 check_ends one (Words index code) files before after can none says cause = absurd says
 check_ends one (Open role) files before after can none says cause = absurd (none_rose (opening_call role) (name_of (Check files) role) before after none cause)
@@ -102,7 +110,7 @@ same_job words job other a b = some_same (sym b.job_is ∙ ap job_of (same_plan 
     some_same : ◌≡◌ {A = Option Job} (Some other) (Some job) → other ≡ job
     some_same e = cc
 
-job_ends : OneAnswer → (status : Status) (job : Job) (before after : Outside) → CanServe job before → NoneRose before after → Says status job before after → HasCause status job before after → (status ≡ Done) ⊎ (status ≡ NoMemory)
+job_ends : OneAnswer → (status : Status) (job : Job) (before after : Outside) → CanServe job before → NoneRose before after → Says status job before after → HasCause (serves job) before.faults after.faults status → (status ≡ Done) ⊎ (status ≡ NoMemory)
 job_ends one status (Decode files) before after can none says cause = decode_ends one status files before after can none says cause
 job_ends one status (Check files) before after can none says cause = check_ends one status files before after can none says cause
 

@@ -1,14 +1,6 @@
-pub mod Begun
 pub mod Captures
 pub mod Causes
 pub mod Checks
 pub mod Complete
 pub mod Ids
-pub mod Opening
-pub mod Outcomes
-pub mod PacketTexts
 pub mod Runs
-pub mod Taking
-pub mod Told
-pub mod Turns
-pub mod Windows

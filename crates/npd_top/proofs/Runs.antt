@@ -7,68 +7,33 @@ use Rattle.npd_host.specs.declared.host.CallKind.{CallKind}
 use Rattle.npd_host.specs.Host.{Inputs}
 use Rattle.pcap_in.specs.declared.form.Form.{Form}
 use Rattle.pcap_in.specs.Capture as capture
-use Rattle.pcap_in.specs.Laws.{SeenIsRead, HeaderIsFront}
+use Rattle.pcap_in.specs.Laws.{SeenIsLimited, HeaderIsFront}
 use Rattle.pcap_in.specs.Reader.{Reader, left}
 use Rattle.npd_top.specs.declared.job.DecodeFiles.{DecodeFiles}
-use Rattle.npd_top.specs.declared.job.OutputFiles.{OutputFiles}
-use Rattle.npd_top.specs.declared.status.Role.{Role}
-use Rattle.npd_top.specs.declared.status.Role.TheVariants.{Db, Cap, Pdml, Psml, Trace, Out}
-use Rattle.npd_top.specs.declared.status.Status.{Status}
-use Rattle.npd_top.specs.declared.status.Status.TheVariants.{Done, Words, Open, Read, Write, Database, Capture, PacketLimit, NoMemory, Unbuilt}
+use Rattle.pipeline.specs.declared.sinks.OutputFiles.{OutputFiles}
+use Rattle.pipeline.specs.declared.status.Role.{Role}
+use Rattle.pipeline.specs.declared.status.Role.TheVariants.{Db, Cap, Pdml, Psml, Trace, Out}
+use Rattle.pipeline.specs.declared.status.Status.{Status}
+use Rattle.pipeline.specs.declared.status.Status.TheVariants.{Done, Words, Open, Read, Write, Database, Capture, PacketLimit, NoMemory, Unbuilt}
 use Rattle.npd_top.specs.Accepted.{IsAccepted, HasAccepted}
-use Rattle.npd_top.specs.CaptureRead.{IsBehindHeader, IsOpen, CaptureOpens}
-use Rattle.npd_top.specs.Causes.{HasDatabaseCause, HasCaptureCause}
-use Rattle.npd_top.specs.DecodeRun.{IsHeader, IsUnopened, ByHeader, GaveOf, Finds, AreWhole, IsDone, IsBroken, IsLimited, IsCut, HasProperFront, HasFront, DecodeSays}
-use Rattle.npd_top.specs.Jobs.{output_of}
+use Rattle.pipeline.specs.CaptureRead.{IsBehindHeader, IsOpen, CaptureOpens, GaveOf}
+use Rattle.pipeline.specs.Causes.{HasCause, opens_capture}
+use Rattle.npd_top.specs.Doings.{loads_database}
+use Rattle.npd_top.specs.DecodeRun.{IsHeader, IsUnopened, ByHeader, Finds, HaveTaken, IsBroken, IsCut, HasProperFront, HasFront, DecodeSays}
 use Rattle.npd_top.specs.Loaded.{DatabaseIs}
-use Rattle.npd_top.specs.Outputs.{open_texts, whole_texts, no_texts}
+use Rattle.pipeline.specs.Outputs.{open_texts, whole_texts, no_texts}
 use Rattle.npd_top.specs.Outside.{Outside, KeepsIds, WroteNothing}
-use Rattle.npd_top.specs.Packets as packets
-use Rattle.npd_top.specs.Packets.{OutputsAre, NamedAre}
-use Rattle.npd_top.specs.Serial.{serial_lines}
-use Rattle.npd_top.specs.Written.{WroteEach, WroteFronts, WrotePart, before_role}
-use Rattle.npd_top.proofs.Opening.{front_of}
-use Rattle.npd_top.proofs.Told.{told_all, told_map, told_here}
+use Rattle.pipeline.specs.Packets as packets
+use Rattle.pipeline.specs.Packets.{OutcomeIs, EndsWith, NamedAre}
+use Rattle.pipeline.specs.Serial.{serial_lines}
+use Rattle.pipeline.specs.Written.{WroteEach, WroteFronts, WrotePart, before_role, output_of}
+use Rattle.pipeline.proofs.Opening.{front_of}
+use Rattle.pipeline.proofs.Told.{told_all, told_map, told_here}
 
 -- the laws that a run rests on
 pub record Rests : Type 0 where
-  pub seen : SeenIsRead
+  pub seen : SeenIsLimited
   pub header : HeaderIsFront
-
--- ---- what is seen of a capture with a limit
-
-below_or_same : (n m : ℕ) → n ≤ m → (n < m) ⊎ (n ≡ m)
-below_or_same n m h = by_test (ltb n m) refl
-  where
-    by_test : (test : Bool) → ltb n m ≡ test → (n < m) ⊎ (n ≡ m)
-    by_test true e = inl (grind (arith, nat_tests))
-    by_test false e = inr (grind (arith, nat_tests))
-
-whole_seen : Rests → (bytes : List ℕ) (ps : List Packet) (most : ℕ) → 0 < most → capture.cap bytes ≡ record { packets = ps; end = capture.Whole } → length ps ≤ most
-    → capture.seen bytes most ≡ record { packets = ps; end = capture.Whole }
-whole_seen rests bytes ps most some all few =
-    let so = rests.seen bytes ps capture.whole_end most some (all ∙ ap (λ (l : List Packet). record { packets = l; end = capture.Whole }) (sym (append-nil ps))) in
-    ⊎_elim (λ below. so.below below refl) (λ same. so.at_end same refl) (below_or_same (length ps) most few)
-
-broken_seen : Rests → (bytes : List ℕ) (ps : List Packet) (most offset code : ℕ) → 0 < most → capture.cap bytes ≡ record { packets = ps; end = capture.Broken offset code } → length ps < most
-    → capture.seen bytes most ≡ record { packets = ps; end = capture.Broken offset code }
-broken_seen rests bytes ps most offset code some all few =
-    let so = rests.seen bytes ps (capture.broken_end offset code) most some (all ∙ ap (λ (l : List Packet). record { packets = l; end = capture.Broken offset code }) (sym (append-nil ps))) in
-    so.below few refl
-
-limit_seen : Rests → (bytes : List ℕ) (ps : List Packet) (rest : capture.Seen) (most : ℕ) → 0 < most → capture.cap bytes ≡ capture.with_front ps rest → (rest ≡ capture.whole_end → ⊥) → length ps ≡ most
-    → capture.seen bytes most ≡ record { packets = ps; end = capture.Limit }
-limit_seen rests bytes ps rest most some all more reached = (rests.seen bytes ps rest most some all).at_limit reached more
-
-seen_packets : (bytes : List ℕ) (most : ℕ) → take most (capture.cap bytes).packets ≡ (capture.seen bytes most).packets
-unfolding capture.seen
-seen_packets bytes most = refl
-
--- what holds of the text of these packets holds of that of those that are seen
-text_seen : (T : (Role → List ℕ) → Type 0) (text : List Packet → Role → List ℕ) (bytes : List ℕ) (most : ℕ) (ps : List Packet) (end : capture.End) → capture.seen bytes most ≡ record { packets = ps; end = end } → T (text ps)
-    → ((capture.seen bytes most).end ≡ end) × T (text (capture.seen bytes most).packets)
-text_seen T text bytes most ps end e t =
-    (ap (λ (s : capture.Seen). s.end) e, subst (λ (l : List Packet). T (text l)) (sym (ap (λ (s : capture.Seen). s.packets) e)) t)
 
 -- ---- what is found of the files
 
@@ -97,37 +62,14 @@ without_header bytes end Without With e without = rw e without
 -- and at the end
 module _ (rests : Rests) (db : model.Database) (name : List ℕ) (file : Option (List ℕ)) (old mid now new : Inputs) (reader : Reader) (opens : IsOpen reader name file mid now) (keeps : KeepsIds old mid) (most : ℕ) (some : 0 < most) where
   module _ (T : (Role → List ℕ) → Type 0) (P : Role → (Role → List ℕ) → Type 0) (F : (Role → List ℕ) → Type 0) where
-    done_of : (bytes : List ℕ) → IsBehindHeader reader now bytes → OutputsAre db serial_lines most T P F Done reader now new
-        → ((capture.seen bytes most).end ≡ capture.Whole) × T (whole_texts db serial_lines (capture.seen bytes most).packets)
-    done_of bytes behind is =
-        let w = told_here (left reader now) (capture.cap bytes) (packets.IsWhole db serial_lines most T P F) behind.sees is in
-        text_seen T (whole_texts db serial_lines) bytes most w.packets capture.Whole (whole_seen rests bytes w.packets most some w.all w.few) w.text
-
-    broken_of : (offset code : ℕ) (bytes : List ℕ) → IsBehindHeader reader now bytes → OutputsAre db serial_lines most T P F (Capture offset code) reader now new
-        → ((capture.seen bytes most).end ≡ capture.Broken offset code) × T (whole_texts db serial_lines (capture.seen bytes most).packets)
-    broken_of offset code bytes behind is =
-        let w = told_here (left reader now) (capture.cap bytes) (packets.IsBroken db serial_lines most T P F offset code) behind.sees is in
-        text_seen T (whole_texts db serial_lines) bytes most w.packets (capture.Broken offset code) (broken_seen rests bytes w.packets most offset code some w.all w.few) w.text
-
-    limited_of : (max : ℕ) (bytes : List ℕ) → IsBehindHeader reader now bytes → OutputsAre db serial_lines most T P F (PacketLimit max) reader now new
-        → (max ≡ most) × ((capture.seen bytes most).end ≡ capture.Limit) × T (whole_texts db serial_lines (capture.seen bytes most).packets)
-    limited_of max bytes behind is =
-        let w = told_here (left reader now) (capture.cap bytes) (packets.IsLimited db serial_lines most T P F max) behind.sees is in
-        let so = text_seen T (whole_texts db serial_lines) bytes most w.packets capture.Limit (limit_seen rests bytes w.packets w.rest most some w.all w.more w.reached) w.text in
-        (w.told, so.0, so.1)
-
-    part_of : (role : Role) (bytes : List ℕ) → IsBehindHeader reader now bytes → OutputsAre db serial_lines most T P F (Write role) reader now new → P role (whole_texts db serial_lines (capture.seen bytes most).packets)
-    part_of role bytes behind is =
-        subst (λ (l : List Packet). P role (whole_texts db serial_lines l)) (seen_packets bytes most)
-        (told_here (left reader now) (capture.cap bytes) (λ s. P role (whole_texts db serial_lines (take most s.packets))) behind.sees is)
-
-    some_of : (bytes : List ℕ) → IsBehindHeader reader now bytes → OutputsAre db serial_lines most T P F NoMemory reader now new → F (whole_texts db serial_lines (capture.seen bytes most).packets)
-    some_of bytes behind is =
-        subst (λ (l : List Packet). F (whole_texts db serial_lines l)) (seen_packets bytes most)
-        (told_here (left reader now) (capture.cap bytes) (λ s. F (whole_texts db serial_lines (take most s.packets))) behind.sees is)
+    -- of the bytes of the capture, as they are seen with the limit
+    outcome_of : (status : Status) (bytes : List ℕ) → IsBehindHeader reader now bytes → EndsWith db serial_lines most T P F status (left reader now) → OutcomeIs db serial_lines most T P F status (capture.seen bytes most)
+    outcome_of status bytes behind is =
+        subst (λ (s : capture.Seen). OutcomeIs db serial_lines most T P F status s) (sym (rests.seen bytes most some))
+        (told_here (left reader now) (capture.cap bytes) (λ s. OutcomeIs db serial_lines most T P F status (capture.limited most s)) behind.sees is)
 
     -- the bytes that were taken are the header and what was given behind it
-    cut_of : (Without : Type 0) (bytes : List ℕ) → IsBehindHeader reader now bytes → OutputsAre db serial_lines most T P F (Read Cap) reader now new
+    cut_of : (Without : Type 0) (bytes : List ℕ) → IsBehindHeader reader now bytes → packets.OutputsAre db serial_lines most T P F (Read Cap) reader now new
         → (given : List ℕ) × GaveOf name old new bytes given × ByHeader (capture.header given) Without (T (open_texts db serial_lines (capture.cap given).packets))
     cut_of Without bytes behind is =
         let all = behind.head ++ is.given in
@@ -178,43 +120,30 @@ module _ (rests : Rests) (files : DecodeFiles) (before after : Outside) (mid now
       → (next : Role) × WroteFronts (before_role next files.outputs) before.outputs after.outputs (whole_texts db serial_lines (capture.seen bytes files.max).packets)
   fronts_of bytes behind is =
       ⊎_elim (λ part. (part.0, fronts_of_none (before_role part.0 files.outputs) (whole_texts db serial_lines (capture.seen bytes files.max).packets) part.1))
-      (λ front. (Out, some_of rests db files.cap (before.files files.cap) before.inputs mid now after.inputs reader opens keeps files.max some T P F bytes behind front)) is
+      (λ front. (Out, outcome_of rests db files.cap (before.files files.cap) before.inputs mid now after.inputs reader opens keeps files.max some T P F NoMemory bytes behind front)) is
 
   -- what a status says whose run came behind the header
   pub says_decoded : (status : Status) → NamedAre db serial_lines files.max files.outputs status reader now after.inputs before.outputs after.outputs → DecodeSays status files before after
-  says_decoded Done is =
-      found (IsDone files before after) (λ bytes behind. done_of rests db files.cap (before.files files.cap) before.inputs mid now after.inputs reader opens keeps files.max some T P F bytes behind is)
-  says_decoded (Words index code) is = absurd is
+  says_decoded Done is = found (HaveTaken files before after files.outputs Done) (λ bytes behind. outcome_of rests db files.cap (before.files files.cap) before.inputs mid now after.inputs reader opens keeps files.max some T P F Done bytes behind is)
   says_decoded (Open Db) is = absurd (no_name is.0)
   says_decoded (Open Cap) is = absurd (no_name is.0)
   says_decoded (Open Pdml) is = unopened Pdml is
   says_decoded (Open Psml) is = unopened Psml is
   says_decoded (Open Trace) is = unopened Trace is
   says_decoded (Open Out) is = unopened Out is
-  says_decoded (Read Db) is = absurd is
   says_decoded (Read Cap) is =
       found (IsCut files before after) (λ bytes behind. cut_of rests db files.cap (before.files files.cap) before.inputs mid now after.inputs reader opens keeps files.max some T P F (WroteNothing before after) bytes behind is)
-  says_decoded (Read Pdml) is = absurd is
-  says_decoded (Read Psml) is = absurd is
-  says_decoded (Read Trace) is = absurd is
-  says_decoded (Read Out) is = absurd is
   says_decoded (Write role) is =
-      found (HasProperFront files before after role) (λ bytes behind. (
-        header_so bytes reader.form behind.header_is,
-        part_of rests db files.cap (before.files files.cap) before.inputs mid now after.inputs reader opens keeps files.max some T P F role bytes behind is,
-      ))
-  says_decoded (Database line code) is = absurd is
+      found (HasProperFront files before after role) (λ bytes behind. (header_so bytes reader.form behind.header_is, outcome_of rests db files.cap (before.files files.cap) before.inputs mid now after.inputs reader opens keeps files.max some T P F (Write role) bytes behind is))
   says_decoded (Capture offset code) is =
       found (IsBroken files before after offset code) (λ bytes behind.
-      let so = broken_of rests db files.cap (before.files files.cap) before.inputs mid now after.inputs reader opens keeps files.max some T P F offset code bytes behind is in
-      (so.0, with_header bytes reader.form (WroteNothing before after) (AreWhole files before after db bytes) behind.header_is so.1))
-  says_decoded (PacketLimit max) is =
-      found (IsLimited files before after max) (λ bytes behind. limited_of rests db files.cap (before.files files.cap) before.inputs mid now after.inputs reader opens keeps files.max some T P F max bytes behind is)
+      with_header bytes reader.form _ (HaveTaken files before after files.outputs (Capture offset code) db bytes) behind.header_is (outcome_of rests db files.cap (before.files files.cap) before.inputs mid now after.inputs reader opens keeps files.max some T P F (Capture offset code) bytes behind is))
+  says_decoded (PacketLimit max) is = found (HaveTaken files before after files.outputs (PacketLimit max)) (λ bytes behind. outcome_of rests db files.cap (before.files files.cap) before.inputs mid now after.inputs reader opens keeps files.max some T P F (PacketLimit max) bytes behind is)
   says_decoded NoMemory is =
       inr (found (HasFront files before after) (λ bytes behind.
       let front = fronts_of bytes behind is in
       (header_so bytes reader.form behind.header_is, front.0, front.1)))
-  says_decoded (Unbuilt which) is = absurd is
+  says_decoded status is = absurd is
 
 -- ---- before the output
 
@@ -227,21 +156,18 @@ short_header bytes short = first (length bytes) (Err (capture.Broken 0 1)) _ sho
 -- a header that is none is all that is seen
 no_header : Rests → (bytes : List ℕ) (most offset code : ℕ) → 0 < most → capture.header bytes ≡ Err (capture.Broken offset code) → (capture.seen bytes most).end ≡ capture.Broken offset code
 no_header rests bytes most offset code some e =
-    ap (λ (s : capture.Seen). s.end) (broken_seen rests bytes [] most offset code some (ap (λ (r : Result Form capture.End). capture.from_header r bytes) e) some)
+    ap (λ (s : capture.Seen). s.end) (rests.seen bytes most some)
+    ∙ ap (λ (r : Result Form capture.End). (capture.limited most (capture.from_header r bytes)).end) e
+    ∙ none_fewer most (capture.Broken offset code) _ some
+  where
+    none_fewer : (n : ℕ) (x y : capture.End) → 0 < n → cond (ltb 0 n) x y ≡ x
+    none_fewer n x y h = grind (arith, nat_tests)
 
 -- what a status says where the capture wasn't opened, or has no header
 pub says_unopened : Rests → (status : Status) (files : DecodeFiles) (before after : Outside) (mid : Inputs) (faults : CallKind → List ℕ → ℕ) (db : model.Database) → 0 < files.max → IfSome (before.files files.db) (λ text. IsAccepted text db)
-    → CaptureOpens (Err status) files.cap (before.files files.cap) mid after.inputs → KeepsIds before.inputs mid → after.outputs ≡ before.outputs → HasCaptureCause files.cap faults after.faults status → DecodeSays status files before after
-says_unopened rests Done files before after mid faults db some database opens keeps same cause = absurd cause
-says_unopened rests (Words index code) files before after mid faults db some database opens keeps same cause = absurd cause
-says_unopened rests (Open Db) files before after mid faults db some database opens keeps same cause = absurd cause
+    → CaptureOpens (Err status) files.cap (before.files files.cap) mid after.inputs → KeepsIds before.inputs mid → after.outputs ≡ before.outputs → HasCause (opens_capture files.cap) faults after.faults status → DecodeSays status files before after
 says_unopened rests (Open Cap) files before after mid faults db some database opens keeps same cause =
     (same, finds_of (before.files files.db) (before.files files.cap) db (λ db bytes. Unit {0}) database (any (before.files files.cap)))
-says_unopened rests (Open Pdml) files before after mid faults db some database opens keeps same cause = absurd cause
-says_unopened rests (Open Psml) files before after mid faults db some database opens keeps same cause = absurd cause
-says_unopened rests (Open Trace) files before after mid faults db some database opens keeps same cause = absurd cause
-says_unopened rests (Open Out) files before after mid faults db some database opens keeps same cause = absurd cause
-says_unopened rests (Read Db) files before after mid faults db some database opens keeps same cause = absurd cause
 says_unopened rests (Read Cap) files before after mid faults db some database opens keeps same cause =
     finds_of (before.files files.db) (before.files files.cap) db (IsCut files before after) database
     (told_map (before.files files.cap) (λ bytes. (given : List ℕ) × GaveOf files.cap mid after.inputs bytes given × (length given < 24)) (IsCut files before after db) (λ bytes took.
@@ -250,42 +176,18 @@ says_unopened rests (Read Cap) files before after mid faults db some database op
       record { id = gave.id; rest = gave.rest; fresh = keeps gave.id gave.fresh; named = gave.named; holds = gave.holds; parts = gave.parts },
       without_header took.0 (capture.Broken 0 1) (WroteNothing before after) (WroteEach files.outputs before.outputs after.outputs (open_texts db serial_lines (capture.cap took.0).packets)) (short_header took.0 took.2) same,
     )) opens)
-says_unopened rests (Read Pdml) files before after mid faults db some database opens keeps same cause = absurd cause
-says_unopened rests (Read Psml) files before after mid faults db some database opens keeps same cause = absurd cause
-says_unopened rests (Read Trace) files before after mid faults db some database opens keeps same cause = absurd cause
-says_unopened rests (Read Out) files before after mid faults db some database opens keeps same cause = absurd cause
-says_unopened rests (Write role) files before after mid faults db some database opens keeps same cause = absurd cause
-says_unopened rests (Database line code) files before after mid faults db some database opens keeps same cause = absurd cause
 says_unopened rests (Capture offset code) files before after mid faults db some database opens keeps same cause =
     finds_of (before.files files.db) (before.files files.cap) db (IsBroken files before after offset code) database
-    (told_map (before.files files.cap) (λ bytes. capture.header bytes ≡ Err (capture.Broken offset code)) (IsBroken files before after offset code db) (λ bytes e. (
-      no_header rests bytes files.max offset code some e,
-      without_header bytes (capture.Broken offset code) (WroteNothing before after) (AreWhole files before after db bytes) e same,
-    )) opens)
-says_unopened rests (PacketLimit max) files before after mid faults db some database opens keeps same cause = absurd cause
+    (told_map (before.files files.cap) (λ bytes. capture.header bytes ≡ Err (capture.Broken offset code)) (IsBroken files before after offset code db) (λ bytes e.
+    without_header bytes (capture.Broken offset code) _ (HaveTaken files before after files.outputs (Capture offset code) db bytes) e (no_header rests bytes files.max offset code some e, same)) opens)
 says_unopened rests NoMemory files before after mid faults db some database opens keeps same cause = inl same
-says_unopened rests (Unbuilt which) files before after mid faults db some database opens keeps same cause = absurd cause
+says_unopened rests status files before after mid faults db some database opens keeps same cause = absurd cause
 
 -- what it says where there is no database to decode by
-pub says_unloaded : (status : Status) (files : DecodeFiles) (before after : Outside) → IfSome (before.files files.db) (DatabaseIs (Err status)) → after.outputs ≡ before.outputs → HasDatabaseCause files.db before.faults after.faults status
+pub says_unloaded : (status : Status) (files : DecodeFiles) (before after : Outside) → IfSome (before.files files.db) (DatabaseIs (Err status)) → after.outputs ≡ before.outputs → HasCause (loads_database files.db) before.faults after.faults status
     → DecodeSays status files before after
-says_unloaded Done files before after is same cause = absurd cause
-says_unloaded (Words index code) files before after is same cause = absurd cause
 says_unloaded (Open Db) files before after is same cause = same
-says_unloaded (Open Cap) files before after is same cause = absurd cause
-says_unloaded (Open Pdml) files before after is same cause = absurd cause
-says_unloaded (Open Psml) files before after is same cause = absurd cause
-says_unloaded (Open Trace) files before after is same cause = absurd cause
-says_unloaded (Open Out) files before after is same cause = absurd cause
 says_unloaded (Read Db) files before after is same cause = same
-says_unloaded (Read Cap) files before after is same cause = absurd cause
-says_unloaded (Read Pdml) files before after is same cause = absurd cause
-says_unloaded (Read Psml) files before after is same cause = absurd cause
-says_unloaded (Read Trace) files before after is same cause = absurd cause
-says_unloaded (Read Out) files before after is same cause = absurd cause
-says_unloaded (Write role) files before after is same cause = absurd cause
 says_unloaded (Database line code) files before after is same cause = (same, is)
-says_unloaded (Capture offset code) files before after is same cause = absurd cause
-says_unloaded (PacketLimit max) files before after is same cause = absurd cause
 says_unloaded NoMemory files before after is same cause = inl same
-says_unloaded (Unbuilt which) files before after is same cause = absurd cause
+says_unloaded status files before after is same cause = absurd cause

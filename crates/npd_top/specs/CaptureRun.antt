@@ -5,20 +5,21 @@ use Rattle.npd_host.specs.declared.host.CallKind.{CallKind}
 use Rattle.npd_host.specs.Host.{Inputs, NoneFalls}
 use Rattle.pcap_in.specs.Reader.{Reader}
 use Rattle.npd_top.specs.declared.job.DecodeFiles.{DecodeFiles}
-use Rattle.npd_top.specs.declared.status.Status.{Status}
-use Rattle.npd_top.specs.CaptureRead.{IsOpen, CaptureOpens}
-use Rattle.npd_top.specs.Causes.{HasCaptureCause, HasOutputsCause}
-use Rattle.npd_top.specs.Jobs.{output_of}
-use Rattle.npd_top.specs.Outside.{Outside, OpensOne}
-use Rattle.npd_top.specs.Packets.{NamedAre, OpensNames}
-use Rattle.npd_top.specs.Serial.{serial_lines}
+use Rattle.pipeline.specs.declared.status.Status.{Status}
+use Rattle.pipeline.specs.CaptureRead.{IsOpen, CaptureOpens}
+use Rattle.pipeline.specs.Causes.{HasCause, decodes_capture, opens_capture}
+use Rattle.npd_top.specs.Outside.{Outside}
+use Rattle.pipeline.specs.Packets.{NamedAre, OpensNames}
+use Rattle.pipeline.specs.Serial.{serial_lines}
+use Rattle.pipeline.specs.Opened.{OpensOne}
+use Rattle.pipeline.specs.Written.{output_of}
 
 -- the capture was not opened, or it has no header
 pub record StaysClosed (status : Status) (files : DecodeFiles) (before after : Outside) : Type 0 where
   pub opens : CaptureOpens (Err status) files.cap (before.files files.cap) before.inputs after.inputs
   pub opened : OpensOne {A = Reader} files.cap before.inputs.opened after.inputs.opened (Err status)
   pub outputs : after.outputs ≡ before.outputs
-  pub cause : HasCaptureCause files.cap before.faults after.faults status
+  pub cause : HasCause (opens_capture files.cap) before.faults after.faults status
 
 -- it was opened, so that inputs and counts of faults were these, and its packets were decoded by a database
 pub record IsDecoded (status : Status) (files : DecodeFiles) (db : model.Database) (before after : Outside) : Type 0 where
@@ -30,7 +31,7 @@ pub record IsDecoded (status : Status) (files : DecodeFiles) (db : model.Databas
   pub later : NoneFalls before.faults faults
   pub named : NamedAre db serial_lines files.max files.outputs status reader inputs after.inputs before.outputs after.outputs
   pub names : OpensNames status files.outputs before.outputs.opened after.outputs.opened
-  pub cause : HasOutputsCause (Some files.cap) (output_of files.outputs) faults after.faults status
+  pub cause : HasCause (decodes_capture (Some files.cap) (output_of files.outputs)) faults after.faults status
 
 abbrev pub CaptureRuns : Status → DecodeFiles → model.Database → Outside → Outside → Type 0
 CaptureRuns status files db before after = StaysClosed status files before after ⊎ IsDecoded status files db before after

@@ -2,13 +2,13 @@
 use Rattle.std.specs.Prelude.{◌⊎◌, ℕ, List, [], ◌∷◌, ◌++◌, length, codes, decimal, IfSome}
 use Rattle.db_model.specs.declared.database.Database as model
 use Rattle.npd_top.specs.declared.job.CheckFiles.{CheckFiles}
-use Rattle.npd_top.specs.declared.status.Role.TheVariants.{Db, Out}
-use Rattle.npd_top.specs.declared.status.Status.{Status}
-use Rattle.npd_top.specs.declared.status.Status.TheVariants.{Done, Open, Read, Write, Database, NoMemory}
+use Rattle.pipeline.specs.declared.status.Role.TheVariants.{Db, Out}
+use Rattle.pipeline.specs.declared.status.Status.{Status}
+use Rattle.pipeline.specs.declared.status.Status.TheVariants.{Done, Open, Read, Write, Database, NoMemory}
 use Rattle.npd_top.specs.declared.totals.Totals.{Totals}
 use Rattle.npd_top.specs.Accepted.{IsRefused, HasAccepted}
 use Rattle.npd_top.specs.Outside.{Outside, Opened, WroteNothing}
-use Rattle.npd_top.specs.Written.{Wrote, WroteFront, WroteProper}
+use Rattle.npd_top.specs.Line.{standard, Wrote, WroteFront, WroteProper}
 
 -- how much a database declares
 abbrev pub totals_of : model.Database → Totals
@@ -23,10 +23,6 @@ totals_line t =
 -- the database file, where it is told, is accepted, and this holds of its line
 abbrev pub FindsAccepted : CheckFiles → Outside → (List ℕ → Type 0) → Type 0
 FindsAccepted files before Holds = IfSome (before.files files.db) (λ text. (found : HasAccepted text) × Holds (totals_line (totals_of found.db)))
-
--- the output of a check
-abbrev pub standard : List ℕ
-standard = codes "-"
 
 -- what each status says of the file, and of the outputs before and after; all others never come
 abbrev pub CheckSays : Status → CheckFiles → Outside → Outside → Type 0

@@ -1,26 +1,22 @@
 -- What a decode comes to: which status comes where, which files are opened, and what the outputs have taken then.
-use Rattle.std.specs.Prelude.{◌≡◌, ◌⊎◌, ℕ, List, [], ◌∷◌, ◌++◌, Some, None, Result, Ok, Err, IfSome, IsSome}
+use Rattle.std.specs.Prelude.{◌≡◌, ◌⊎◌, ℕ, List, [], ◌∷◌, ◌++◌, Result, Ok, Err, IfSome, IsSome}
 use Rattle.db_model.specs.declared.database.Database as model
-use Rattle.db_model.specs.declared.packet.Packet.{Packet}
-use Rattle.npd_host.specs.Host.{Inputs}
 use Rattle.pcap_in.specs.declared.form.Form.{Form}
 use Rattle.pcap_in.specs.Capture as capture
 use Rattle.npd_top.specs.declared.job.DecodeFiles.{DecodeFiles}
-use Rattle.npd_top.specs.declared.status.Role.{Role}
-use Rattle.npd_top.specs.declared.status.Role.TheVariants.{Db, Cap}
-use Rattle.npd_top.specs.declared.status.Status.{Status}
-use Rattle.npd_top.specs.declared.status.Status.TheVariants.{Done, Open, Read, Write, Database, Capture, PacketLimit, NoMemory}
+use Rattle.pipeline.specs.declared.status.Role.{Role}
+use Rattle.pipeline.specs.declared.status.Role.TheVariants.{Db, Cap}
+use Rattle.pipeline.specs.declared.status.Status.{Status}
+use Rattle.pipeline.specs.declared.status.Status.TheVariants.{Done, Open, Read, Write, Database, Capture, PacketLimit, NoMemory}
 use Rattle.npd_top.specs.Accepted.{IsRefused, HasAccepted}
-use Rattle.npd_top.specs.Jobs.{output_of}
-use Rattle.npd_top.specs.Outputs.{open_texts, whole_texts, no_texts}
+use Rattle.pipeline.specs.Outputs.{open_texts, no_texts}
+use Rattle.pipeline.specs.Packets.{OutcomeIs}
+use Rattle.pipeline.specs.declared.sinks.OutputFiles.{OutputFiles}
 use Rattle.npd_top.specs.Outside.{Outside, Opened, WroteNothing}
-use Rattle.npd_top.specs.Serial.{serial_lines}
-use Rattle.npd_top.specs.Written.{WroteEach, WroteFronts, WrotePart, before_role, names_of}
+use Rattle.pipeline.specs.Serial.{serial_lines}
+use Rattle.pipeline.specs.Written.{WroteEach, WroteFronts, WrotePart, before_role, names_of, output_of}
 
--- the packets of a capture, at most so many, and how what is seen of it ends then
-abbrev pub packets_in : ℕ → List ℕ → List Packet
-packets_in most bytes = (capture.seen bytes most).packets
-
+-- how what is seen of a capture ends, with at most so many packets
 abbrev pub end_of : ℕ → List ℕ → capture.End
 end_of most bytes = (capture.seen bytes most).end
 
@@ -34,39 +30,27 @@ abbrev pub ByHeader : Result Form capture.End → Type 0 → Type 0 → Type 0
 ByHeader (Ok form) Without With = With
 ByHeader (Err end) Without With = Without
 
--- the bytes that an input opened under this name gave: all but those that it still holds
-pub record GaveOf (name : List ℕ) (old new : Inputs) (bytes given : List ℕ) : Type 0 where
-  pub id : ℕ
-  pub rest : List ℕ
-  pub fresh : old.name id ≡ None
-  pub named : new.name id ≡ Some name
-  pub holds : new.held id ≡ Some rest
-  pub parts : bytes ≡ given ++ rest
-
 -- the database file, where it is told, is accepted, and this holds of it and of the bytes of the capture, where they are
 -- told
 abbrev pub Finds : DecodeFiles → Outside → (model.Database → List ℕ → Type 0) → Type 0
 Finds files before Holds =
     IfSome (before.files files.db) (λ text. (found : HasAccepted text) × IfSome (before.files files.cap) (Holds found.db))
 
--- for these files, and outputs before and after: what the outputs that are named have taken
+-- for these files, and the host before and after: what the outputs that are named have taken
 module _ (files : DecodeFiles) (before after : Outside) where
-  -- each output is whole, with so many packets of these bytes as are read
-  abbrev pub AreWhole : model.Database → List ℕ → Type 0
-  AreWhole db bytes = WroteEach files.outputs before.outputs after.outputs (whole_texts db serial_lines (packets_in files.max bytes))
-
-  -- the capture is read to its end, and the outputs are whole
-  abbrev pub IsDone : model.Database → List ℕ → Type 0
-  IsDone db bytes = (end_of files.max bytes ≡ capture.Whole) × AreWhole db bytes
+  -- these outputs are what a status says of the packets of these bytes, as many as are read: whole, a proper front of its
+  -- role's and fronts of the others, or fronts; and their end is the status's
+  abbrev pub HaveTaken : OutputFiles → Status → model.Database → List ℕ → Type 0
+  HaveTaken outputs status db bytes =
+      OutcomeIs db serial_lines files.max (WroteEach outputs before.outputs after.outputs)
+      (λ role. WrotePart role outputs before.outputs after.outputs)
+      (WroteFronts outputs before.outputs after.outputs) status (capture.seen bytes files.max)
 
   -- the capture is broken: without a file header nothing is written, and else the outputs are whole up to there
   abbrev pub IsBroken : ℕ → ℕ → model.Database → List ℕ → Type 0
   IsBroken offset code db bytes =
-      (end_of files.max bytes ≡ capture.Broken offset code) × ByHeader (capture.header bytes) (WroteNothing before after) (AreWhole db bytes)
-
-  -- more follows than the packets that are read, and the outputs are whole with these
-  abbrev pub IsLimited : ℕ → model.Database → List ℕ → Type 0
-  IsLimited max db bytes = (max ≡ files.max) × (end_of files.max bytes ≡ capture.Limit) × AreWhole db bytes
+      ByHeader (capture.header bytes) ((end_of files.max bytes ≡ capture.Broken offset code) × WroteNothing before after)
+      (HaveTaken files.outputs (Capture offset code) db bytes)
 
   -- the packets that stand wholly in the bytes that the capture gave are written, and the outputs aren't closed; without a
   -- file header in them nothing is written
@@ -78,14 +62,11 @@ module _ (files : DecodeFiles) (before after : Outside) where
 
   -- each output has taken a front of its whole text, and that of this role, which is one of them, a proper one
   abbrev pub HasProperFront : Role → model.Database → List ℕ → Type 0
-  HasProperFront role db bytes =
-      IsHeader (capture.header bytes) × WrotePart role files.outputs before.outputs after.outputs (whole_texts db serial_lines (packets_in files.max bytes))
+  HasProperFront role db bytes = IsHeader (capture.header bytes) × HaveTaken files.outputs (Write role) db bytes
 
   -- the outputs before that of some role are opened, and each has taken a front of its whole text
   abbrev pub HasFront : model.Database → List ℕ → Type 0
-  HasFront db bytes =
-      IsHeader (capture.header bytes)
-      × (next : Role) × WroteFronts (before_role next files.outputs) before.outputs after.outputs (whole_texts db serial_lines (packets_in files.max bytes))
+  HasFront db bytes = IsHeader (capture.header bytes) × (next : Role) × HaveTaken (before_role next files.outputs) NoMemory db bytes
 
   -- the outputs before that of this role, which is one of them, are opened, and nothing is written
   abbrev pub IsUnopened : Role → Type 0
@@ -95,7 +76,7 @@ module _ (files : DecodeFiles) (before after : Outside) where
 
 -- what each status says of the files, and of the outputs before and after; all others never come
 abbrev pub DecodeSays : Status → DecodeFiles → Outside → Outside → Type 0
-DecodeSays Done files before after = Finds files before (IsDone files before after)
+DecodeSays Done files before after = Finds files before (HaveTaken files before after files.outputs Done)
 DecodeSays (Open Db) files before after = WroteNothing before after
 DecodeSays (Open Cap) files before after = WroteNothing before after × Finds files before (λ db bytes. Unit {0})
 DecodeSays (Open role) files before after = IsUnopened files before after role
@@ -105,7 +86,7 @@ DecodeSays (Write role) files before after = Finds files before (HasProperFront 
 DecodeSays (Database line code) files before after =
     WroteNothing before after × IfSome (before.files files.db) (λ text. IsRefused text line code)
 DecodeSays (Capture offset code) files before after = Finds files before (IsBroken files before after offset code)
-DecodeSays (PacketLimit max) files before after = Finds files before (IsLimited files before after max)
+DecodeSays (PacketLimit max) files before after = Finds files before (HaveTaken files before after files.outputs (PacketLimit max))
 DecodeSays NoMemory files before after = WroteNothing before after ⊎ Finds files before (HasFront files before after)
 DecodeSays never files before after = ⊥
 

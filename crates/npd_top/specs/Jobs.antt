@@ -5,9 +5,9 @@ use Rattle.npd_words.specs.declared.plan.Plan.TheVariants as plan
 use Rattle.npd_words.specs.Asked.{asked, fault}
 use Rattle.npd_top.specs.declared.job.Job.{Job}
 use Rattle.npd_top.specs.declared.job.Job.TheVariants.{Decode, Check}
-use Rattle.npd_top.specs.declared.job.OutputFiles.{OutputFiles}
-use Rattle.npd_top.specs.declared.status.Role.{Role}
-use Rattle.npd_top.specs.declared.status.Role.TheVariants.{Pdml, Psml, Trace}
+use Rattle.pipeline.specs.declared.sinks.OutputFiles.{OutputFiles}
+use Rattle.pipeline.specs.declared.status.Role.{Role}
+use Rattle.pipeline.specs.declared.status.Role.TheVariants.{Pdml, Psml, Trace}
 
 -- the job that a plan is; none yet, where it names a report or asks for a capture to be made. The serial run has no
 -- workers
@@ -38,10 +38,3 @@ pub record AsksUnbuilt (words : List (List ℕ)) : Type 0 where
 -- these words ask for nothing: this is the first fault in them
 abbrev pub AreFaulty : List (List ℕ) → ℕ → ℕ → Type 0
 AreFaulty words index code = asked words ≡ Err (fault index code)
-
--- the file of an output's role, where one is named
-abbrev pub output_of : OutputFiles → Role → Option (List ℕ)
-output_of files Pdml = files.pdml
-output_of files Psml = files.psml
-output_of files Trace = files.trace
-output_of files other = None

@@ -7,8 +7,8 @@ use Rattle.npd_top.specs.declared.job.CheckFiles.{CheckFiles}
 use Rattle.npd_top.specs.declared.job.DecodeFiles.{DecodeFiles}
 use Rattle.npd_top.specs.declared.job.Job.{Job}
 use Rattle.npd_top.specs.declared.job.Job.TheVariants.{Decode, Check}
-use Rattle.npd_top.specs.declared.status.Status.{Status}
-use Rattle.npd_top.specs.declared.status.Status.TheVariants.{Done, NoMemory}
+use Rattle.pipeline.specs.declared.status.Status.{Status}
+use Rattle.pipeline.specs.declared.status.Status.TheVariants.{Done, NoMemory}
 use Rattle.npd_top.specs.Accepted.{HasAccepted}
 use Rattle.npd_top.specs.DecodeRun.{end_of}
 use Rattle.npd_top.specs.Jobs.{Asks}

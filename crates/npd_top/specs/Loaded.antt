@@ -1,8 +1,8 @@
 -- What the loading of a database file finds.
 use Rattle.std.specs.Prelude.{◌≡◌, ℕ, List, Result, Ok, Err}
 use Rattle.db_model.specs.declared.database.Database as model
-use Rattle.npd_top.specs.declared.status.Status.{Status}
-use Rattle.npd_top.specs.declared.status.Status.TheVariants.{Database}
+use Rattle.pipeline.specs.declared.status.Status.{Status}
+use Rattle.pipeline.specs.declared.status.Status.TheVariants.{Database}
 use Rattle.npd_top.specs.declared.totals.Totals.{Totals}
 use Rattle.npd_top.specs.Accepted.{IsAccepted, HasAccepted, IsRefused}
 use Rattle.npd_top.specs.CheckRun.{totals_of}

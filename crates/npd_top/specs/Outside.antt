@@ -1,10 +1,8 @@
 -- What a run sees of a host, and which files it opens.
-use Rattle.std.specs.Prelude.{◌≡◌, ◌<◌, ◌⊎◌, ℕ, List, [], ◌∷◌, ◌++◌, length, Option, None, Result, Ok, Err}
+use Rattle.std.specs.Prelude.{◌≡◌, ◌<◌, ℕ, List, [], ◌++◌, length, Option, None}
 use Rattle.npd_host.specs.declared.host.CallKind.{CallKind}
 use Rattle.npd_host.specs.declared.host.Host.{Ghosts}
 use Rattle.npd_host.specs.Host.{Inputs, Outputs}
-use Rattle.npd_top.specs.declared.status.Status.{Status}
-use Rattle.npd_top.specs.declared.status.Status.TheVariants.{Open, NoMemory}
 
 -- a host at one moment: its inputs, its outputs, the bytes of its files, where they are told, and its counts of faults
 pub record Outside : Type 0 where
@@ -35,14 +33,3 @@ pub record FrontOf (most : ℕ) (front whole : List ℕ) : Type 0 where
 pub record Opened (read written : List (List ℕ)) (before after : Outside) : Type 0 where
   pub inputs : after.inputs.opened ≡ before.inputs.opened ++ read
   pub outputs : after.outputs.opened ≡ before.outputs.opened ++ written
-
--- a file of this name was opened once, unless its opening gave up; where memory was refused, at most once
-abbrev pub OpensOne : {A : Type 0} → List ℕ → List (List ℕ) → List (List ℕ) → Result A Status → Type 0
-OpensOne name before now (Ok done) = now ≡ before ++ name ∷ []
-OpensOne name before now (Err (Open role)) = now ≡ before
-OpensOne name before now (Err NoMemory) = (now ≡ before) ⊎ (now ≡ before ++ name ∷ [])
-OpensOne name before now (Err other) = now ≡ before ++ name ∷ []
-
--- a status as what a call ended with
-abbrev pub ended : Status → Result (Unit {0}) Status
-ended status = Err status

@@ -5,14 +5,7 @@ ghost use Rattle.npd_top.specs.Jobs.{ReadsSome};
 
 use db_model::Word;
 use npd_words::Plan;
-
-/// The outputs that a decode names.
-#[derive(Drop)]
-pub struct OutputFiles {
-    pub pdml: Option<Word>,
-    pub psml: Option<Word>,
-    pub trace: Option<Word>,
-}
+use pipeline::OutputFiles;
 
 /// The files of a decode, and how many packets are read at most: in a window, 1 to 256, and in all.
 #[derive(Drop)]

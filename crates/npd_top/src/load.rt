@@ -1,17 +1,19 @@
 ghost use Rattle.std.specs.Prelude.{◌≡◌, ◌<◌, IfSome, IfErr, IfOk};
 ghost use Rattle.db_text.specs.declared.limits.TheConstants.{MOST_TEXT_BYTES};
 ghost use Rattle.npd_host.specs.Host.{MovesInputsOnly};
-ghost use Rattle.npd_top.specs.Causes.{fault_status, IsFault, HasTextCause, HasDatabaseCause};
+ghost use Rattle.pipeline.specs.Causes.{HasCause};
+ghost use Rattle.npd_top.specs.Doings.{fault_status, checks_text, loads_database, reads_text};
 ghost use Rattle.npd_top.specs.Loaded.{DatabaseIs, TotalsAre};
-ghost use Rattle.npd_top.specs.Outside.{OpensOne, KeepsIds, FrontOf};
+ghost use Rattle.npd_top.specs.Outside.{KeepsIds, FrontOf};
+ghost use Rattle.pipeline.specs.Opened.{OpensOne};
 
-use crate::status::{Role, Status, refused};
 use crate::totals::{Totals, totals_of};
 use db_check::check;
 use db_load::load_database;
 use db_model::{CheckedDb, DbFail};
 use engine::Engine;
 use npd_host::{Host, fill};
+use pipeline::{Role, Status, refused};
 use std::alloc::Global;
 
 /// Opens the database file and reads at most `most` bytes of it.
@@ -26,7 +28,7 @@ fn read_text<H: Host>(
     ensures opens { OpensOne name.now (H.inputs host.old).opened (H.inputs host.new).opened result }
     ensures keeps { KeepsIds (H.inputs host.old) (H.inputs host.new) }
     ensures frame { MovesInputsOnly H.outputs H.files H.faults host.old host.new }
-    ensures cause { IfErr result (HasTextCause name.now (H.faults host.old) (H.faults host.new)) }
+    ensures cause { IfErr result (HasCause (reads_text name.now) (H.faults host.old) (H.faults host.new)) }
 {
     let id = match host.open_in(name) {
         Ok(id) => id,
@@ -77,7 +79,7 @@ fn load<H: Host>(alloc: Global, host: &mut H, name: &str, most: usize) -> Result
     ensures opens { OpensOne name.now (H.inputs host.old).opened (H.inputs host.new).opened result }
     ensures keeps { KeepsIds (H.inputs host.old) (H.inputs host.new) }
     ensures frame { MovesInputsOnly H.outputs H.files H.faults host.old host.new }
-    ensures cause { IfErr result (HasDatabaseCause name.now (H.faults host.old) (H.faults host.new)) }
+    ensures cause { IfErr result (HasCause (loads_database name.now) (H.faults host.old) (H.faults host.new)) }
 {
     let text = read_text(alloc, host, name, most)?;
     accepted(alloc, text.as_slice())
@@ -95,7 +97,7 @@ pub fn load_engine<H: Host>(
     ensures opens { OpensOne name.now (H.inputs host.old).opened (H.inputs host.new).opened result }
     ensures keeps { KeepsIds (H.inputs host.old) (H.inputs host.new) }
     ensures frame { MovesInputsOnly H.outputs H.files H.faults host.old host.new }
-    ensures cause { IfErr result (HasDatabaseCause name.now (H.faults host.old) (H.faults host.new)) }
+    ensures cause { IfErr result (HasCause (loads_database name.now) (H.faults host.old) (H.faults host.new)) }
 {
     let db = match load(alloc, host, name, most) {
         Ok(db) => db,
@@ -118,7 +120,7 @@ pub fn load_totals<H: Host>(
     ensures database { IfSome (H.files host.old name.now) (TotalsAre result) }
     ensures opens { OpensOne name.now (H.inputs host.old).opened (H.inputs host.new).opened result }
     ensures frame { MovesInputsOnly H.outputs H.files H.faults host.old host.new }
-    ensures cause { IfErr result (HasDatabaseCause name.now (H.faults host.old) (H.faults host.new)) }
+    ensures cause { IfErr result (HasCause (loads_database name.now) (H.faults host.old) (H.faults host.new)) }
 {
     let db = match load(alloc, host, name, most) {
         Ok(db) => db,

@@ -5,21 +5,32 @@ ghost use Rattle.npd_top.specs.CheckRun.{CheckSays, CheckOpens};
 ghost use Rattle.npd_top.specs.DecodeRun.{DecodeSays, DecodeOpens};
 ghost use Rattle.npd_top.specs.Outside.{seen};
 ghost use Rattle.npd_top.specs.Jobs.{ReadsSome};
-ghost use Rattle.npd_top.specs.Run.{HasCause, Means, Opens, Says, WhereUntouched};
+ghost use Rattle.npd_top.specs.Run.{Means, Opens, Says, WhereUntouched};
+ghost use Rattle.npd_top.specs.Doings.{serves};
+ghost use Rattle.pipeline.specs.Causes.{HasCause};
 
-use crate::capture::open_capture;
 use crate::job::{CheckFiles, DecodeFiles, Job, job_of};
 use crate::limits::MOST_DATABASE;
+use crate::line::write_line;
 use crate::load::{load_engine, load_totals};
-use crate::output::write_line;
-use crate::packets::write_named;
-use crate::status::{Part, Status};
 use crate::totals::totals_line;
 use engine::Engine;
 use npd_host::Host;
 use npd_words::{WordsFail, read_words};
-use pcap_in::laws::{fronts_tell, seen_is_read};
+use pcap_in::laws::{fronts_tell, seen_is_limited};
+use pipeline::{Part, Room, Status, open_capture, write_named};
 use std::alloc::Global;
+
+/// How many packets these files let be read.
+fn room_of(files: &DecodeFiles) -> Room
+    ensures { result ≡ record { window = files.now.window; left = files.now.max; most = files.now.max } }
+{
+    Room {
+        window: files.window,
+        left: files.max,
+        most: files.max,
+    }
+}
 
 /// Opens the capture and the outputs, and writes the texts of the packets.
 fn decode_capture<H: Host>(
@@ -37,7 +48,14 @@ fn decode_capture<H: Host>(
         Ok(reader) => reader,
         Err(status) => return status,
     };
-    write_named(alloc, host, reader, files, engine)
+    write_named(
+        alloc,
+        host,
+        engine,
+        reader,
+        &files.outputs,
+        room_of(files),
+    )
 }
 
 /// Loads the database, and decodes the capture by it.
@@ -45,12 +63,11 @@ fn run_decode<H: Host>(alloc: Global, host: &mut H, files: &DecodeFiles) -> Stat
     requires { ReadsSome (Job.Decode files.now) }
     ensures opens { DecodeOpens result files.now (seen H.Host host.old) (seen H.Host host.new) }
     ensures says { DecodeSays result files.now (seen H.Host host.old) (seen H.Host host.new) }
-    ensures cause { HasCause result (Job.Decode files.now)
-        (seen H.Host host.old) (seen H.Host host.new) }
+    ensures cause { HasCause (serves (Job.Decode files.now)) (H.faults host.old) (H.faults host.new) result }
     ensures files { H.files host.new ≡ H.files host.old }
     ensures later { NoneFalls (H.faults host.old) (H.faults host.new) }
 {
-    seen_is_read();
+    seen_is_limited();
     fronts_tell();
     // One byte more than a database has, so that a longer text is seen.
     let engine = match load_engine(alloc, host, files.db.as_str(), MOST_DATABASE + 1) {
@@ -66,8 +83,7 @@ fn run_decode<H: Host>(alloc: Global, host: &mut H, files: &DecodeFiles) -> Stat
 fn run_check<H: Host>(alloc: Global, host: &mut H, files: &CheckFiles) -> Status
     ensures opens { CheckOpens result files.now (seen H.Host host.old) (seen H.Host host.new) }
     ensures says { CheckSays result files.now (seen H.Host host.old) (seen H.Host host.new) }
-    ensures cause { HasCause result (Job.Check files.now)
-        (seen H.Host host.old) (seen H.Host host.new) }
+    ensures cause { HasCause (serves (Job.Check files.now)) (H.faults host.old) (H.faults host.new) result }
     ensures files { H.files host.new ≡ H.files host.old }
     ensures later { NoneFalls (H.faults host.old) (H.faults host.new) }
 {
@@ -91,7 +107,7 @@ fn run_job<H: Host>(alloc: Global, host: &mut H, job: &Job) -> Status
     requires { ReadsSome job.now }
     ensures opens { Opens result job.now (seen H.Host host.old) (seen H.Host host.new) }
     ensures says { Says result job.now (seen H.Host host.old) (seen H.Host host.new) }
-    ensures cause { HasCause result job.now (seen H.Host host.old) (seen H.Host host.new) }
+    ensures cause { HasCause (serves job.now) (H.faults host.old) (H.faults host.new) result }
     ensures files { H.files host.new ≡ H.files host.old }
     ensures later { NoneFalls (H.faults host.old) (H.faults host.new) }
 {

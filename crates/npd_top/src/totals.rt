@@ -1,8 +1,8 @@
-ghost use Rattle.std.specs.Prelude.{◌≡◌, IfOk};
+ghost use Rattle.std.specs.Prelude.{◌≡◌, ◌++◌, IfOk, OnOk, decimal};
 ghost use Rattle.npd_top.specs.CheckRun;
 
-use crate::line::{push, push_number};
 use db_model::{Database, NoMemory};
+use show::{push, push_number};
 use std::alloc::Global;
 
 /// How much a database declares.
@@ -24,15 +24,23 @@ pub fn totals_of(db: &Database) -> Totals
     }
 }
 
+/// Adds a number in decimal behind a word.
+fn push_count(text: &mut Vec<u8>, word: &str, number: u64) -> Result<(), NoMemory>
+    ensures { OnOk result (text.new.items ≡ text.old.items ++ (word.now ++ decimal number)) }
+{
+    push(text, word.as_bytes())?;
+    push_number(text, number)
+}
+
 /// The line that says how much a database declares.
 #[tactic(auto, unfolding(crate::specs::CheckRun::totals_line))]
 pub fn totals_line(alloc: Global, totals: &Totals) -> Result<Vec<u8>, NoMemory>
     ensures { IfOk result (λ text. text.items ≡ CheckRun.totals_line totals.now) }
 {
     let mut text = Vec::new(alloc);
-    push_number(&mut text, "protocols ", totals.protocols)?;
-    push_number(&mut text, " tables ", totals.tables)?;
-    push_number(&mut text, " variables ", totals.variables)?;
+    push_count(&mut text, "protocols ", totals.protocols)?;
+    push_count(&mut text, " tables ", totals.tables)?;
+    push_count(&mut text, " variables ", totals.variables)?;
     push(&mut text, b"\n")?;
     Ok(text)
 }

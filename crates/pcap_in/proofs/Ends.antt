@@ -6,7 +6,7 @@ use Rattle.std.proofs.lemmas.List.{take_all, take_at}
 use Rattle.db_model.specs.declared.packet.Packet.{Packet}
 use Rattle.pcap_in.specs.declared.form.Form.{Form}
 use Rattle.pcap_in.specs.Capture.{End, Whole, Broken, Limit, Seen, whole_end, with_front, Step, AtEnd, NoRecord, One, form_of, checked, header, from_header, record_at, record_size, step_then, first_records, records, records_size, passes, cap, seen}
-use Rattle.pcap_in.specs.Laws.{EndsWithoutBytes, SeenIsRead}
+use Rattle.pcap_in.specs.Laws.{EndsWithoutBytes}
 use Rattle.pcap_in.proofs.Records.{length-record, length-rest, at_end-none, no_record-some}
 use Rattle.pcap_in.proofs.ReaderLemmas.{records-at}
 
@@ -182,7 +182,13 @@ at_limit b packets rest most some e full goes_on =
     let all_is = h.behind in
     seen-cut b (with_front packets rest) most e ∙ cut-limit b packets rest.packets rest.end most full (omega arith)
 
-pub seen_is_read : SeenIsRead
+-- what is seen with a limit of a capture of which these packets were read, and this is left to see
+pub record IsSeenSoFar (b : List ℕ) (packets : List Packet) (rest : Seen) (most : ℕ) : Type 0 where
+  pub below : length packets < most → rest.packets ≡ [] → seen b most ≡ record { packets = packets; end = rest.end }
+  pub at_end : length packets ≡ most → rest ≡ whole_end → seen b most ≡ record { packets = packets; end = Whole }
+  pub at_limit : length packets ≡ most → (rest ≡ whole_end → ⊥) → seen b most ≡ record { packets = packets; end = Limit }
+
+pub seen_is_read : (b : List ℕ) (packets : List Packet) (rest : Seen) (most : ℕ) → 0 < most → cap b ≡ with_front packets rest → IsSeenSoFar b packets rest most
 seen_is_read b packets rest most some e = record {
   below = λ few none. seen-cut b (with_front packets rest) most e ∙ cut-below b packets rest.packets rest.end most few none;
   at_end = at_end b packets rest most some e;

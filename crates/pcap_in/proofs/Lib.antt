@@ -1,6 +1,7 @@
 pub mod Ends
 pub mod Fronts
 pub mod Headers
+pub mod Limited
 pub mod More
 pub mod ReaderLemmas
 pub mod Reading

@@ -144,3 +144,15 @@ seen b most = record {
   packets = take most (cap b).packets;
   end = if passes most (cap b).packets b then Limit else (cap b).end;
 }
+
+-- what ends the last packet that may be seen: the limit, unless nothing follows
+abbrev pub end_at_limit : End → End
+end_at_limit Whole = Whole
+end_at_limit other = Limit
+
+-- the same of what is seen without one: the law `SeenIsLimited` says so
+abbrev pub limited : ℕ → Seen → Seen
+limited most s = record {
+  packets = take most s.packets;
+  end = if nat_lt (length s.packets) most then s.end else (if nat_lt most (length s.packets) then Limit else end_at_limit s.end);
+}

@@ -2,7 +2,7 @@
 use Rattle.std.specs.Prelude.{◌≡◌, ◌<◌, ◌↔◌, ℕ, ◌+◌, List, [], ◌∷◌, ◌++◌, length, Ok}
 use Rattle.db_model.specs.declared.packet.Packet.{Packet}
 use Rattle.pcap_in.specs.declared.form.Form.{Form}
-use Rattle.pcap_in.specs.Capture.{Seen, Whole, Limit, whole_end, with_front, One, header, record_at, step_then, record_size, records, cap, seen}
+use Rattle.pcap_in.specs.Capture.{Seen, Whole, Limit, whole_end, with_front, One, header, record_at, step_then, record_size, records, cap, seen, limited}
 use Rattle.pcap_in.specs.Reading.{record_length}
 
 -- the records of any bytes are what stands at their front, and then the records of the bytes behind it
@@ -15,16 +15,18 @@ RecordsAreSteps = (form : Form) (number offset : ℕ) (r : List ℕ) →
 abbrev pub EndsWithoutBytes : Type 0
 EndsWithoutBytes = (form : Form) (number offset : ℕ) (r : List ℕ) → (records form number offset r ≡ whole_end) ↔ (r ≡ [])
 
--- what is seen with a limit of a capture of which these packets were read, and this is left to see
-pub record IsSeenSoFar (b : List ℕ) (packets : List Packet) (rest : Seen) (most : ℕ) : Type 0 where
-  pub below : length packets < most → rest.packets ≡ [] → seen b most ≡ record { packets = packets; end = rest.end }
-  pub at_end : length packets ≡ most → rest ≡ whole_end → seen b most ≡ record { packets = packets; end = Whole }
-  pub at_limit : length packets ≡ most → (rest ≡ whole_end → ⊥) → seen b most ≡ record { packets = packets; end = Limit }
+-- what is seen with a limit is what is seen without one, limited
+abbrev pub SeenIsLimited : Type 0
+SeenIsLimited = (b : List ℕ) (most : ℕ) → 0 < most → seen b most ≡ limited most (cap b)
 
--- it is told by the packets that were read and by what is left
-abbrev pub SeenIsRead : Type 0
-SeenIsRead = (b : List ℕ) (packets : List Packet) (rest : Seen) (most : ℕ)
-    → 0 < most → cap b ≡ with_front packets rest → IsSeenSoFar b packets rest most
+-- what these packets and what is left behind them come to with a limit
+pub record IsLimitedSo (packets : List Packet) (rest : Seen) (most : ℕ) : Type 0 where
+  pub below : length packets < most → rest.packets ≡ [] → limited most (with_front packets rest) ≡ record { packets = packets; end = rest.end }
+  pub at_end : length packets ≡ most → rest ≡ whole_end → limited most (with_front packets rest) ≡ record { packets = packets; end = Whole }
+  pub at_limit : length packets ≡ most → (rest ≡ whole_end → ⊥) → limited most (with_front packets rest) ≡ record { packets = packets; end = Limit }
+
+abbrev pub LimitedIsRead : Type 0
+LimitedIsRead = (packets : List Packet) (rest : Seen) (most : ℕ) → IsLimitedSo packets rest most
 
 -- a header at the front of some bytes is theirs, and behind it stand the records of the others
 abbrev pub HeaderIsFront : Type 0

@@ -1,5 +1,5 @@
 //! What the definition of a capture comes to.
-ghost use Rattle.pcap_in.specs.Laws.{RecordsAreSteps, EndsWithoutBytes, SeenIsRead, HeaderIsFront, RecordIsFront, RecordIsNumbered, PartHasNone};
+ghost use Rattle.pcap_in.specs.Laws.{RecordsAreSteps, EndsWithoutBytes, SeenIsLimited, LimitedIsRead, HeaderIsFront, RecordIsFront, RecordIsNumbered, PartHasNone};
 
 /// The records of any bytes are what stands at their front, and then the records of the bytes behind it.
 pub fn records_are_steps()
@@ -11,9 +11,11 @@ pub fn ends_without_bytes()
     ensures { EndsWithoutBytes }
 {}
 
-/// With a limit of packets, what is seen of a capture is told by the packets that were read and by what is left.
-pub fn seen_is_read()
-    ensures { SeenIsRead }
+/// What is seen of a capture with a limit of packets is told by what is seen without one, and that by the packets that were
+/// read and by what is left.
+pub fn seen_is_limited()
+    ensures seen { SeenIsLimited }
+    ensures read { LimitedIsRead }
 {}
 
 /// What was taken of a capture tells the packets that were wholly taken: a header and a record stay what they are,

@@ -1,10 +1,9 @@
 use Rattle.std.proofs.Common.{ap, ◌∙◌}
 use Rattle.npd_host.specs.Host.{Inputs, Outputs}
-use Rattle.npd_top.specs.CheckRun.{standard}
-use Rattle.npd_top.specs.Written.{Wrote}
 use Rattle.npd_top.specs.Outside.{seen}
 use Rattle.npd_top.proofs.Checks.{finds_accepted, says_line, opens_line}
 use Rattle.npd_top.proofs.run.run_check.Goals as goal
+use Rattle.npd_top.specs.Line.{standard, Wrote}
 
 pub returns-in-Ok-write_line-clause-says : goal.returns-in-Ok-write_line-clause-says
 returns-in-Ok-write_line-clause-says g c =

@@ -15,7 +15,7 @@ returns c =
     let t = c.args.totals.now in
     joined (codes "protocols ") (decimal t.protocols) (codes " tables ") (decimal t.tables) (codes " variables ") (decimal t.variables) (codes "\n") _ _ _ _ _
     c.new-text.ensures.items
-    c.in_ok-push_number.ensures
-    c.in_ok-push_number-2.ensures
-    c.in_ok-push_number-3.ensures
+    c.in_ok-push_count.ensures
+    c.in_ok-push_count-2.ensures
+    c.in_ok-push_count-3.ensures
     c.in_ok-push.ensures

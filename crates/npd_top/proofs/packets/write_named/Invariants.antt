@@ -1,4 +1,0 @@
-use Rattle.npd_top.proofs.packets.write_named.Given as goal
-
-abbrev pub ghosts-run : goal.ghosts-run
-ghosts-run g a = record { name = a.blank.name; parts = a.blank.parts }

@@ -1,0 +1,9 @@
+pub mod Begun
+pub mod Causes
+pub mod Opening
+pub mod Outcomes
+pub mod PacketTexts
+pub mod Taking
+pub mod Told
+pub mod Turns
+pub mod Windows

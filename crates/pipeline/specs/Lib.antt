@@ -1,0 +1,12 @@
+pub mod CaptureRead
+pub mod Causes
+pub mod Opened
+pub mod Outputs
+pub mod Packets
+pub mod Pipeline
+pub mod Ready
+pub mod Serial
+pub mod Status
+pub mod Taken
+pub mod Window
+pub mod Written
