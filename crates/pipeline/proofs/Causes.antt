@@ -1,20 +1,13 @@
 -- Causes of a status, in a part of a run and in what it is a part of.
-use Rattle.std.proofs.Common.{◌≡◌, ◌≤◌, ℕ, Bool, true, false, List, Option, Some, None, IfSome, IsSome, T, subst, arith}
-use Rattle.std.specs.Prelude.{IsSomeAnd}
+use Rattle.std.proofs.Common.{◌≡◌, ◌≤◌, ℕ, List, Option, Some, None, IfSome, T, arith}
 use Rattle.npd_host.specs.declared.host.CallKind.{CallKind}
 use Rattle.npd_host.specs.declared.host.CallKind.TheVariants as call
-use Rattle.npd_host.specs.Host.{Rose, RoseAt, NoneFalls}
+use Rattle.npd_host.specs.Host.{Rose, NoneFalls}
 use Rattle.pipeline.specs.declared.status.Role.{Role}
-use Rattle.pipeline.specs.declared.status.Role.TheVariants.{Db, Cap, Pdml, Psml, Trace, Out}
 use Rattle.pipeline.specs.declared.status.Status.{Status}
 use Rattle.pipeline.specs.declared.status.Status.TheVariants.{Done, Words, Open, Read, Write, Database, Capture, PacketLimit, NoMemory, Unbuilt}
-use Rattle.pipeline.specs.Causes.{Doing, RoseIn, one, opening_call, opens_outputs, HasCause}
-use Rattle.pipeline.proofs.Told.{match_map, told_here}
-
--- the count of an id's name rose, and it has one
-pub rose_some : (kind : CallKind) (name : Option (List ℕ)) (before now : CallKind → List ℕ → ℕ) → IsSome name → RoseAt (before kind) (now kind) name → RoseIn kind name before now
-rose_some kind None before now some rose = absurd some
-rose_some kind (Some name) before now some rose = rose
+use Rattle.pipeline.specs.Causes.{Doing, RoseIn, opening_call, HasCause}
+use Rattle.pipeline.proofs.Told.{match_map}
 
 -- a count that rose has risen since any earlier moment
 rose_later : (before mid now : ℕ) → before ≤ mid → Rose mid now → Rose before now

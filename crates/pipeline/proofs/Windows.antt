@@ -7,7 +7,6 @@ use Rattle.std.proofs.lemmas.List.Sums.{sum_by_push}
 use Rattle.db_model.specs.declared.limits.TheConstants.{STAMP_END}
 use Rattle.db_model.specs.declared.packet.Packet.{Packet}
 use Rattle.npd_host.specs.declared.host.CallKind.{CallKind}
-use Rattle.npd_host.specs.declared.host.CallKind.TheVariants as call
 use Rattle.npd_host.specs.Host.{Gave, NoneFalls}
 use Rattle.npd_host.proofs.Transfers.{gave_none, gave_then}
 use Rattle.pcap_in.specs.declared.form.Form.{Form}
@@ -24,7 +23,7 @@ use Rattle.pipeline.specs.declared.status.Role.TheVariants.{Cap}
 use Rattle.pipeline.specs.declared.status.Status.{Status}
 use Rattle.pipeline.specs.declared.status.Status.TheVariants.{Done, Read, Capture, PacketLimit, NoMemory}
 use Rattle.pipeline.specs.CaptureRead.{ClosesWith, IsCaptureEnd, FollowingTakes, LimitIs, LimitTakes}
-use Rattle.pipeline.specs.Causes.{HasCause, HasNotedCause, RoseIn, reads_capture}
+use Rattle.pipeline.specs.Causes.{HasCause, HasNotedCause, reads_capture}
 use Rattle.pipeline.specs.Taken.{GaveSome}
 use Rattle.pipeline.specs.Window.{Place, captured_bytes, window_bytes, given_up, IsLight, AreNumbered, IsReadTo, Reads, IsCutShort, NotedIs, ReadsWindow, ReadsOne, NotesLimit}
 use Rattle.pipeline.proofs.Causes.{cause_later}

@@ -12,7 +12,7 @@ use Rattle.pipeline.specs.declared.reading.Noted.TheVariants.{Fails}
 use Rattle.pipeline.specs.declared.status.Role.{Role}
 use Rattle.pipeline.specs.declared.status.Role.TheVariants.{Db, Cap, Pdml, Psml, Trace, Out}
 use Rattle.pipeline.specs.declared.status.Status.{Status}
-use Rattle.pipeline.specs.declared.status.Status.TheVariants.{Done, Open, Read, Write, Database, Capture, PacketLimit, NoMemory}
+use Rattle.pipeline.specs.declared.status.Status.TheVariants.{Done, Open, Read, Write, Capture, PacketLimit, NoMemory}
 
 -- the status where a host refused a call: this one, or want of memory
 abbrev pub refusal : Status → HostFail → Status

@@ -1,13 +1,11 @@
 -- What a run has written to its outputs, and that every other output is left.
-use Rattle.std.specs.Prelude.{◌≡◌, ◌<◌, ◌⊎◌, ℕ, List, [], ◌∷◌, ◌++◌, length, Option, Some, None, Result, Ok, Err, IfSome, IsSomeAnd}
+use Rattle.std.specs.Prelude.{◌≡◌, ◌<◌, ℕ, List, [], ◌∷◌, ◌++◌, length, Option, Some, None, IfSome, IsSomeAnd}
 use Rattle.npd_host.specs.declared.host.OutId.{OutId}
 use Rattle.npd_host.specs.Host.{Outputs}
 use Rattle.pipeline.specs.declared.sinks.OutputFiles.{OutputFiles}
 use Rattle.pipeline.specs.declared.sinks.Sinks.{Sinks}
 use Rattle.pipeline.specs.declared.status.Role.{Role}
-use Rattle.pipeline.specs.declared.status.Role.TheVariants.{Pdml, Psml, Trace, Out}
-use Rattle.pipeline.specs.declared.status.Status.{Status}
-use Rattle.pipeline.specs.declared.status.Status.TheVariants.{Open, Write, NoMemory}
+use Rattle.pipeline.specs.declared.status.Role.TheVariants.{Pdml, Psml, Trace}
 
 -- the file of an output's role, where one is named
 abbrev pub output_of : OutputFiles → Role → Option (List ℕ)

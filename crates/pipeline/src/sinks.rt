@@ -1,6 +1,6 @@
 ghost use Rattle.std.specs.Prelude.{◌≡◌, IfErr};
 ghost use Rattle.npd_host.specs.Host.{MovesOutputsOnly};
-ghost use Rattle.pipeline.specs.Causes.{HasCause, one, opens_outputs};
+ghost use Rattle.pipeline.specs.Causes.{HasCause, one, opening_call, opens_outputs};
 ghost use Rattle.pipeline.specs.Written.{output_of};
 ghost use Rattle.pipeline.specs.Taken.{wanted_of, OpensNamed, OpensOutputs};
 ghost use Rattle.pipeline.specs.Written.{sink_of};
@@ -8,7 +8,7 @@ ghost use Rattle.pipeline.specs.Written.{sink_of};
 use crate::status::{Role, Status, refused};
 use db_model::Word;
 use engine::Wanted;
-use npd_host::{Host, OutId};
+use npd_host::{CallKind, Host, OutId};
 
 /// The outputs of packets that are named. None: it isn't.
 #[derive(Drop)]
@@ -56,9 +56,11 @@ fn open_named<H: Host>(
     role: Role,
     name: &Option<Word>,
 ) -> Result<Option<OutId>, Status>
+    requires { opening_call role ≡ CallKind.OpenOut }
     ensures opens { OpensNamed result role name.now (H.outputs host.old) (H.outputs host.new) }
     ensures frame { MovesOutputsOnly H.inputs H.files H.faults host.old host.new }
-    ensures cause { IfErr result (HasCause (opens_outputs (one role name.now)) (H.faults host.old) (H.faults host.new)) }
+    ensures cause { IfErr result (HasCause (opens_outputs (one role name.now))
+        (H.faults host.old) (H.faults host.new)) }
 {
     let Some(name) = name else {
         return Ok(None);
@@ -73,7 +75,8 @@ fn open_named<H: Host>(
 pub fn open_outputs<H: Host>(host: &mut H, files: &OutputFiles) -> Result<Sinks, Status>
     ensures opens { OpensOutputs result files.now (H.outputs host.old) (H.outputs host.new) }
     ensures frame { MovesOutputsOnly H.inputs H.files H.faults host.old host.new }
-    ensures cause { IfErr result (HasCause (opens_outputs (output_of files.now)) (H.faults host.old) (H.faults host.new)) }
+    ensures cause { IfErr result (HasCause (opens_outputs (output_of files.now))
+        (H.faults host.old) (H.faults host.new)) }
 {
     let pdml = open_named(host, Role::Pdml, &files.pdml)?;
     let psml = open_named(host, Role::Psml, &files.psml)?;

@@ -145,7 +145,7 @@ impl Status {
                 push_fault(text, "database ", u64::from(*line), *code)
             }
             Status::Capture { offset, code } => push_fault(text, "capture ", *offset, *code),
-            Status::PacketLimit { max } => push_limit(text, *max),
+            Status::PacketLimit { max } => push_reached(text, "packet limit ", u64::from(*max)),
             Status::NoMemory => push_words(text, "no memory", ""),
             Status::Unbuilt { part } => push_words(text, "unbuilt ", part.word()),
         }
@@ -177,14 +177,14 @@ fn push_words(text: &mut Vec<u8>, what: &str, which: &str) -> Result<(), NoMemor
     push(text, b"\n")
 }
 
-/// Adds the line of a limit of packets.
-fn push_limit(text: &mut Vec<u8>, max: u32) -> Result<(), NoMemory>
+/// Adds `npd: `, what was reached with its number, and LF.
+fn push_reached(text: &mut Vec<u8>, what: &str, number: u64) -> Result<(), NoMemory>
     ensures { OnOk result (text.new.items ≡ text.old.items
-        ++ (codes "npd: " ++ (codes "packet limit " ++ decimal max) ++ 10 ∷ [])) }
+        ++ (codes "npd: " ++ (what.now ++ decimal number) ++ 10 ∷ [])) }
 {
     push(text, b"npd: ")?;
-    push(text, b"packet limit ")?;
-    push_number(text, u64::from(max))?;
+    push(text, what.as_bytes())?;
+    push_number(text, number)?;
     push(text, b"\n")
 }
 

@@ -14,7 +14,7 @@ returns-clause-runs g c =
       opens = is_open;
       opened = named.inputs.gave.opened ∙ (rw c.as_str.ensures at capture.opens);
       later = capture.frame.later;
-      named = rw capture.frame.outputs at named.named;
+      named = rw (capture.frame.outputs, c.room_of.ensures) at named.named;
       names = rw capture.frame.outputs at named.opens;
       cause = rw is_open.named at named.cause;
     })
