@@ -1,8 +1,7 @@
 -- What a decode's status says, made up of the findings of its steps.
-use Rattle.std.proofs.Common.{◌≡◌, ◌⊎◌, inl, inr, ⊎_elim, ◌<◌, ◌≤◌, ℕ, Bool, true, false, cond, ltb, List, [], ◌++◌, length, take, Option, Some, None, Result, Ok, Err, refl, sym, ap, ◌∙◌, subst, IfSome, IsSome, append_assoc, append-nil, arith}
+use Rattle.std.proofs.Common.{◌≡◌, inl, inr, ⊎_elim, ◌<◌, ℕ, cond, ltb, List, ◌++◌, length, Option, Some, None, Result, Ok, Err, refl, sym, ap, ◌∙◌, subst, IfSome, IsSome, append_assoc, arith}
 use Rattle.std.proofs.lemmas.Bool.Decides.{nat_tests}
 use Rattle.db_model.specs.declared.database.Database as model
-use Rattle.db_model.specs.declared.packet.Packet.{Packet}
 use Rattle.npd_host.specs.declared.host.CallKind.{CallKind}
 use Rattle.npd_host.specs.Host.{Inputs}
 use Rattle.pcap_in.specs.declared.form.Form.{Form}
@@ -14,7 +13,7 @@ use Rattle.pipeline.specs.declared.sinks.OutputFiles.{OutputFiles}
 use Rattle.pipeline.specs.declared.status.Role.{Role}
 use Rattle.pipeline.specs.declared.status.Role.TheVariants.{Db, Cap, Pdml, Psml, Trace, Out}
 use Rattle.pipeline.specs.declared.status.Status.{Status}
-use Rattle.pipeline.specs.declared.status.Status.TheVariants.{Done, Words, Open, Read, Write, Database, Capture, PacketLimit, NoMemory, Unbuilt}
+use Rattle.pipeline.specs.declared.status.Status.TheVariants.{Done, Open, Read, Write, Database, Capture, PacketLimit, NoMemory}
 use Rattle.npd_top.specs.Accepted.{IsAccepted, HasAccepted}
 use Rattle.pipeline.specs.CaptureRead.{IsBehindHeader, IsOpen, CaptureOpens, GaveOf}
 use Rattle.pipeline.specs.Causes.{HasCause, opens_capture}

@@ -1,5 +1,5 @@
 -- What a decode comes to: which status comes where, which files are opened, and what the outputs have taken then.
-use Rattle.std.specs.Prelude.{◌≡◌, ◌⊎◌, ℕ, List, [], ◌∷◌, ◌++◌, Result, Ok, Err, IfSome, IsSome}
+use Rattle.std.specs.Prelude.{◌≡◌, ◌⊎◌, ℕ, List, [], ◌∷◌, Result, Ok, Err, IfSome, IsSome}
 use Rattle.db_model.specs.declared.database.Database as model
 use Rattle.pcap_in.specs.declared.form.Form.{Form}
 use Rattle.pcap_in.specs.Capture as capture
@@ -10,6 +10,7 @@ use Rattle.pipeline.specs.declared.status.Status.{Status}
 use Rattle.pipeline.specs.declared.status.Status.TheVariants.{Done, Open, Read, Write, Database, Capture, PacketLimit, NoMemory}
 use Rattle.npd_top.specs.Accepted.{IsRefused, HasAccepted}
 use Rattle.pipeline.specs.Outputs.{open_texts, no_texts}
+use Rattle.pipeline.specs.CaptureRead.{GaveOf}
 use Rattle.pipeline.specs.Packets.{OutcomeIs}
 use Rattle.pipeline.specs.declared.sinks.OutputFiles.{OutputFiles}
 use Rattle.npd_top.specs.Outside.{Outside, Opened, WroteNothing}

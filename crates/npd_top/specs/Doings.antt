@@ -1,5 +1,5 @@
 -- What the parts of a run do that aren't those of a capture and its outputs.
-use Rattle.std.specs.Prelude.{ℕ, List, Bool, true, false, Option, Some, None}
+use Rattle.std.specs.Prelude.{ℕ, List, Bool, true, false, T, Option, Some, None}
 use Rattle.db_model.specs.declared.fault.DbFail.{DbFail}
 use Rattle.db_model.specs.declared.fault.DbFail.TheVariants as database
 use Rattle.npd_top.specs.declared.job.Job.{Job}
@@ -22,13 +22,14 @@ abbrev pub is_fault : Status → Bool
 is_fault (Database line code) = true
 is_fault other = false
 
+-- a text is loaded and checked as a database, without a host
+abbrev pub IsFault : Status → Type 0
+IsFault NoMemory = Unit {0}
+IsFault status = T (is_fault status)
+
 -- the database file is opened and read
 abbrev pub reads_text : List ℕ → Doing
 reads_text name = record { opens = one Db (Some name); reads = one Db (Some name); writes = nothing; finds = no_status }
-
--- a text is loaded and checked as a database
-abbrev pub checks_text : Doing
-checks_text = record { opens = nothing; reads = nothing; writes = nothing; finds = is_fault }
 
 -- the database file is opened, read, loaded and checked
 abbrev pub loads_database : List ℕ → Doing

@@ -5,9 +5,6 @@ use Rattle.npd_words.specs.declared.plan.Plan.TheVariants as plan
 use Rattle.npd_words.specs.Asked.{asked, fault}
 use Rattle.npd_top.specs.declared.job.Job.{Job}
 use Rattle.npd_top.specs.declared.job.Job.TheVariants.{Decode, Check}
-use Rattle.pipeline.specs.declared.sinks.OutputFiles.{OutputFiles}
-use Rattle.pipeline.specs.declared.status.Role.{Role}
-use Rattle.pipeline.specs.declared.status.Role.TheVariants.{Pdml, Psml, Trace}
 
 -- the job that a plan is; none yet, where it names a report or asks for a capture to be made. The serial run has no
 -- workers

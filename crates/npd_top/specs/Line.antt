@@ -1,5 +1,5 @@
 -- What the output of a command's line has taken, and that every other output is left.
-use Rattle.std.specs.Prelude.{◌≡◌, ◌<◌, ◌⊎◌, ℕ, List, ◌++◌, length, Result, Ok, Err, IfSome, codes}
+use Rattle.std.specs.Prelude.{◌≡◌, ◌<◌, ◌⊎◌, ℕ, List, ◌++◌, length, Some, None, Result, Ok, Err, IfSome, codes}
 use Rattle.npd_host.specs.Host.{Outputs}
 use Rattle.pipeline.specs.declared.status.Role.TheVariants.{Out}
 use Rattle.pipeline.specs.declared.status.Status.{Status}

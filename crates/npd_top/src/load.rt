@@ -2,7 +2,7 @@ ghost use Rattle.std.specs.Prelude.{◌≡◌, ◌<◌, IfSome, IfErr, IfOk};
 ghost use Rattle.db_text.specs.declared.limits.TheConstants.{MOST_TEXT_BYTES};
 ghost use Rattle.npd_host.specs.Host.{MovesInputsOnly};
 ghost use Rattle.pipeline.specs.Causes.{HasCause};
-ghost use Rattle.npd_top.specs.Doings.{fault_status, checks_text, loads_database, reads_text};
+ghost use Rattle.npd_top.specs.Doings.{fault_status, loads_database, reads_text, IsFault};
 ghost use Rattle.npd_top.specs.Loaded.{DatabaseIs, TotalsAre};
 ghost use Rattle.npd_top.specs.Outside.{KeepsIds, FrontOf};
 ghost use Rattle.pipeline.specs.Opened.{OpensOne};
@@ -28,7 +28,8 @@ fn read_text<H: Host>(
     ensures opens { OpensOne name.now (H.inputs host.old).opened (H.inputs host.new).opened result }
     ensures keeps { KeepsIds (H.inputs host.old) (H.inputs host.new) }
     ensures frame { MovesInputsOnly H.outputs H.files H.faults host.old host.new }
-    ensures cause { IfErr result (HasCause (reads_text name.now) (H.faults host.old) (H.faults host.new)) }
+    ensures cause { IfErr result (HasCause (reads_text name.now)
+        (H.faults host.old) (H.faults host.new)) }
 {
     let id = match host.open_in(name) {
         Ok(id) => id,
@@ -79,7 +80,8 @@ fn load<H: Host>(alloc: Global, host: &mut H, name: &str, most: usize) -> Result
     ensures opens { OpensOne name.now (H.inputs host.old).opened (H.inputs host.new).opened result }
     ensures keeps { KeepsIds (H.inputs host.old) (H.inputs host.new) }
     ensures frame { MovesInputsOnly H.outputs H.files H.faults host.old host.new }
-    ensures cause { IfErr result (HasCause (loads_database name.now) (H.faults host.old) (H.faults host.new)) }
+    ensures cause { IfErr result (HasCause (loads_database name.now)
+        (H.faults host.old) (H.faults host.new)) }
 {
     let text = read_text(alloc, host, name, most)?;
     accepted(alloc, text.as_slice())
@@ -97,7 +99,8 @@ pub fn load_engine<H: Host>(
     ensures opens { OpensOne name.now (H.inputs host.old).opened (H.inputs host.new).opened result }
     ensures keeps { KeepsIds (H.inputs host.old) (H.inputs host.new) }
     ensures frame { MovesInputsOnly H.outputs H.files H.faults host.old host.new }
-    ensures cause { IfErr result (HasCause (loads_database name.now) (H.faults host.old) (H.faults host.new)) }
+    ensures cause { IfErr result (HasCause (loads_database name.now)
+        (H.faults host.old) (H.faults host.new)) }
 {
     let db = match load(alloc, host, name, most) {
         Ok(db) => db,
@@ -120,7 +123,8 @@ pub fn load_totals<H: Host>(
     ensures database { IfSome (H.files host.old name.now) (TotalsAre result) }
     ensures opens { OpensOne name.now (H.inputs host.old).opened (H.inputs host.new).opened result }
     ensures frame { MovesInputsOnly H.outputs H.files H.faults host.old host.new }
-    ensures cause { IfErr result (HasCause (loads_database name.now) (H.faults host.old) (H.faults host.new)) }
+    ensures cause { IfErr result (HasCause (loads_database name.now)
+        (H.faults host.old) (H.faults host.new)) }
 {
     let db = match load(alloc, host, name, most) {
         Ok(db) => db,

@@ -48,14 +48,7 @@ fn decode_capture<H: Host>(
         Ok(reader) => reader,
         Err(status) => return status,
     };
-    write_named(
-        alloc,
-        host,
-        engine,
-        reader,
-        &files.outputs,
-        room_of(files),
-    )
+    write_named(alloc, host, engine, reader, &files.outputs, room_of(files))
 }
 
 /// Loads the database, and decodes the capture by it.

@@ -135,7 +135,7 @@ module _ (front : SerialFront) (db : model.Database) (lines : ℕ → List ℕ) 
   closed_output so (PacketLimit max) a b outputs ends took =
       told_map (left a.reader a.inputs) _ (λ seen. (max ≡ most) × ((limited most seen).end ≡ Limit) × TookEach sinks a.outputs outputs (whole_texts db lines (take most seen.packets))) (λ seen is.
       let is_so = outcome (TookEach sinks a.outputs outputs) (whole_texts db lines) (limited most seen) ends.packets Limit
-          (limited_reached so most ends.packets seen is.0 is.2.1 is.1 is.2.0) (whole_took a b outputs ends.packets ends.took.1 took) in
+      (limited_reached so most ends.packets seen is.0 is.2.1 is.1 is.2.0) (whole_took a b outputs ends.packets ends.took.1 took) in
       (is.2.2, is_so.0, is_so.1)) ends.sees
   closed_output so status a b outputs ends took = absurd ends.took.0
 
