@@ -3,15 +3,21 @@ ghost use Rattle.std.specs.Prelude.{◌≡◌, ◌+◌, ◌<◌, ◌≤◌, [], 
 ghost use Rattle.db_model.specs.Decoding.{dec};
 ghost use Rattle.db_model.specs.Over.{extended};
 ghost use Rattle.db_model.specs.declared.limits.TheConstants.{STAMP_END};
+ghost use Rattle.pdl_code.specs.Does.{IsCodeOf};
 ghost use Rattle.pdml_out.specs.Pdml;
 ghost use Rattle.psml_out.specs.Psml;
+ghost use Rattle.psml_out.specs.Summaries.{summaries_of};
+ghost use Rattle.show.specs.Labels.{labels_of};
 ghost use Rattle.session.specs.State.{new_session};
+ghost use Rattle.std.specs.Arc.{arc_value};
+ghost use Rattle.tap_bus.specs.Told.{told_of};
 ghost use Rattle.engine.specs.Engine.{HasParts};
 ghost use Rattle.engine.specs.Ready.{IsSettled, Settles, session_after};
 ghost use Rattle.engine.specs.Texts.{HasOpenings, HasTexts, text_if};
 
 use crate::ready::{Ready, serial_receipt};
 use crate::texts::{Texts, Wanted, put};
+use db_laws::few_protocols;
 use db_model::{Answers, CheckedDb, NoMemory, Packet, PacketTree};
 use decode_vm::{Steps, decode};
 use pdl_code::{Code, compile};
@@ -22,6 +28,7 @@ use std::alloc::Global;
 use std::marker::Model;
 use std::sync::Arc;
 use std::sync::ledger::Ledger;
+use tap_bus::Told;
 
 /// A database, its code, what it calls its fields and blocks, and how it sums packets up. Seen as the database.
 #[derive(Drop)]
@@ -60,14 +67,33 @@ struct Parts {
 fn parts_of(alloc: Global, db: &CheckedDb) -> Result<Parts, NoMemory>
     ensures { IfOk result (λ parts. HasParts parts db.now) }
 {
-    let code = compile(alloc, db)?;
+    let code = Arc::new(alloc, compile(alloc, db)?)?;
+    let (labels, summaries) = written_by(alloc, db)?;
+    Ok(Parts {
+        code,
+        labels,
+        summaries,
+    })
+}
+
+/// What packets of this database are written by.
+fn written_by(
+    alloc: Global,
+    db: &CheckedDb,
+) -> Result<(Arc<Labels, Global>, Arc<Summaries, Global>), NoMemory>
+    ensures labels { IfOk result (λ made. arc_value made.0 ≡ labels_of db.now) }
+    ensures summaries { IfOk result (λ made. arc_value made.1 ≡ summaries_of db.now) }
+{
     let labels = Labels::of(alloc, db)?;
     let summaries = Summaries::of(alloc, db)?;
-    Ok(Parts {
-        code: Arc::new(alloc, code)?,
-        labels: Arc::new(alloc, labels)?,
-        summaries: Arc::new(alloc, summaries)?,
-    })
+    Ok((Arc::new(alloc, labels)?, Arc::new(alloc, summaries)?))
+}
+
+/// Lets a shared database go, if this is the last that shares it.
+fn let_go(db: Arc<CheckedDb, Global>) {
+    if let Some(db) = Arc::into_inner(db) {
+        db.discard();
+    }
 }
 
 /// A database with what is made of it.
@@ -109,6 +135,30 @@ impl Engine {
         }
     }
 
+    /// The engine of a database that has its code already, and shares both.
+    pub fn with_code(
+        alloc: Global,
+        db: Arc<CheckedDb, Global>,
+        code: Arc<Code, Global>,
+    ) -> Result<Engine, NoMemory>
+        requires { IsCodeOf (arc_value db) (arc_value code) }
+        ensures { IfOk result (λ e. e ≡ arc_value db) }
+    {
+        match written_by(alloc, &db) {
+            Ok((labels, summaries)) => Ok(Engine {
+                alloc,
+                db,
+                code,
+                labels,
+                summaries,
+            }),
+            Err(refused) => {
+                let_go(db);
+                Err(refused)
+            }
+        }
+    }
+
     /// One more that shares all of this one. It copies nothing.
     pub fn share(&self) -> Result<Engine, NoMemory>
         ensures { IfOk result (λ e. e ≡ self.now) }
@@ -134,9 +184,7 @@ impl Engine {
             labels,
             summaries,
         } = self;
-        if let Some(db) = Arc::into_inner(db) {
-            db.discard();
-        }
+        let_go(db);
         drop(code);
         drop(labels);
         drop(summaries);
@@ -147,6 +195,20 @@ impl Engine {
         ensures { result.now ≡ self.now }
     {
         &self.db
+    }
+
+    /// Takes no memory.
+    pub fn db(&self) -> &Arc<CheckedDb, Global>
+        ensures { arc_value result.now ≡ self.now }
+    {
+        &self.db
+    }
+
+    /// The code of the database. Takes no memory.
+    pub fn code(&self) -> &Arc<Code, Global>
+        ensures { IsCodeOf self.now (arc_value result.now) }
+    {
+        &self.code
     }
 
     /// The session of the database to which nothing was added.
@@ -226,6 +288,36 @@ impl Engine {
         }
     }
 
+    /// Decodes a packet, puts its wanted texts into the buffers and answers what taps are told of it. Counts a step in
+    /// either case.
+    pub fn decode_told<A: Answers, L: Ledger>(
+        &self,
+        packet: &Packet,
+        wanted: Wanted,
+        answers: &mut A,
+        steps: &mut Steps<L>,
+        texts: &mut Texts,
+    ) -> Result<Told, NoMemory>
+        requires database { A.database answers.old ≡ self.now }
+        requires time { packet.now.stamp < STAMP_END }
+        ensures database { A.database answers.new ≡ self.now }
+        ensures texts { OnOk result (HasTexts wanted texts.new self.now packet.now
+            (dec self.now packet.now (A.content answers.old)).result) }
+        ensures session { OnOk result (A.content answers.new
+            ≡ (dec self.now packet.now (A.content answers.old)).session) }
+        ensures taps { IfOk result (λ told. told
+            ≡ told_of packet.now (dec self.now packet.now (A.content answers.old)).result) }
+        ensures told { OnOk result (A.told answers.new
+            ≡ extended (A.told answers.old) (dec self.now packet.now (A.content answers.old)).log) }
+        ensures steps { steps.new ≡ steps.old + 1 }
+    {
+        few_protocols();
+        let tree = decode(self.alloc, &self.db, &self.code, packet, answers, steps)?;
+        self.put_pdml(wanted.pdml, packet, &tree, &mut texts.pdml)?;
+        self.put_psml(wanted.psml, packet, &tree, &mut texts.psml)?;
+        Ok(Told::of(packet, &tree))
+    }
+
     /// Decodes a packet and puts its wanted texts into the buffers. Counts a step in either case.
     pub fn decode<A: Answers, L: Ledger>(
         &self,
@@ -246,9 +338,8 @@ impl Engine {
             ≡ extended (A.told answers.old) (dec self.now packet.now (A.content answers.old)).log) }
         ensures steps { steps.new ≡ steps.old + 1 }
     {
-        let tree = decode(self.alloc, &self.db, &self.code, packet, answers, steps)?;
-        self.put_pdml(wanted.pdml, packet, &tree, &mut texts.pdml)?;
-        self.put_psml(wanted.psml, packet, &tree, &mut texts.psml)
+        let _told = self.decode_told(packet, wanted, answers, steps, texts)?;
+        Ok(())
     }
 
     /// Buffers for the texts of a packet, with room for as much as the last of these has, so that they seldom grow.

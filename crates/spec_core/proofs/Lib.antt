@@ -1,0 +1,9 @@
+pub mod Commits
+pub mod Drained
+pub mod DrainedTexts
+pub mod Later
+pub mod Legal
+pub mod Lists
+pub mod Settled
+pub mod Steps
+pub mod Windows

@@ -1,0 +1,13 @@
+pub mod Codes
+pub mod Commits
+pub mod Events
+pub mod Inside
+pub mod Jobs
+pub mod Later
+pub mod Laws
+pub mod Legal
+pub mod Machine
+pub mod Settling
+pub mod Texts
+pub mod Whole
+pub mod Windows
